@@ -1,0 +1,14 @@
+pub mod VariableNames
+pub mod Coordinates
+pub mod Plain
+pub mod Balance
+pub mod Views
+pub mod Circulation
+pub mod Touch
+pub mod Valid
+pub mod Totals
+pub mod Steps
+pub mod Induct
+pub mod Fields
+pub mod Laws
+pub mod Order

@@ -1,0 +1,97 @@
+ghost use Rattle.std.specs.Prelude.{◌≡◌, ℕ, ◌<◌, ◌≤◌, List, [], ◌∷◌, ◌++◌, length, map, slice_get, OnOk, OnErr, Option, Some, None};
+ghost use Rattle.std.specs.Option.{option_copied, option_map};
+ghost use Rattle.mesh_model.specs.VariableNames.{no_names};
+
+use amr_num::OutOfMemory;
+use std::alloc::Global;
+use std::marker::Model;
+
+/// The most cell variables that a mesh has.
+pub const CELL_VARIABLES: u32 = 4;
+
+/// The names of a mesh's variables: up to four cell variables, in declared order, and the face and the
+/// edge variable where they are declared.
+#[derive(Debug, Drop)]
+pub struct Names {
+    cells: Vec<String>,
+    face: Option<String>,
+    edge: Option<String>,
+}
+
+impl Model for Names {
+    ghost use Rattle.std.specs.Prelude.{◌≤◌, length, map, string_bytes};
+    ghost use Rattle.std.specs.Option.{option_map};
+    ghost use Rattle.mesh_model.specs.VariableNames.{VariableNames};
+    ghost use Rattle.mesh_model.specs.declared.names.TheConstants.{CELL_VARIABLES};
+
+    ghost Value = { VariableNames };
+
+    ghost view = { λ n. record { cells = map (λ s. string_bytes s) n.cells.items; face = option_map (λ s. string_bytes s) n.face; edge = option_map (λ s. string_bytes s) n.edge } };
+
+    ghost invariant = { λ n. length n.cells.items ≤ CELL_VARIABLES };
+}
+
+impl Names {
+    /// No names yet.
+    pub fn new(alloc: Global) -> Names
+        ensures { result ≡ no_names }
+    {
+        Names {
+            cells: Vec::new(alloc),
+            face: None,
+            edge: None,
+        }
+    }
+
+    /// How many cell variables there are.
+    pub fn cells(&self) -> u32
+        ensures count { result ≡ length self.now.cells }
+        ensures few { result ≤ CELL_VARIABLES }
+    {
+        self.cells.len() as u32
+    }
+
+    /// The name of the cell variable `v`.
+    pub fn cell(&self, v: u32) -> &str
+        requires { v < length self.now.cells }
+        ensures { slice_get self.now.cells v ≡ Some result.now }
+    {
+        self.cells[v as usize].as_str()
+    }
+
+    /// The name of the face variable: `None` exactly where none is declared.
+    pub fn face(&self) -> Option<&str>
+        ensures { option_copied result ≡ self.now.face }
+    {
+        match &self.face {
+            Some(name) => Some(name.as_str()),
+            None => None,
+        }
+    }
+
+    /// The name of the edge variable: `None` exactly where none is declared.
+    pub fn edge(&self) -> Option<&str>
+        ensures { option_copied result ≡ self.now.edge }
+    {
+        match &self.edge {
+            Some(name) => Some(name.as_str()),
+            None => None,
+        }
+    }
+
+    /// Declares the cell variable `name`, after those before.
+    pub fn add_cell(&mut self, alloc: Global, name: &str) -> Result<(), OutOfMemory>
+        requires { length self.old.cells < CELL_VARIABLES }
+        ensures ok { OnOk result (self.new ≡ record self.old { cells = self.old.cells ++ name.now ∷ [] }) }
+        ensures err { OnErr result (self.new ≡ self.old) }
+    {
+        let name = match String::from_str(alloc, name) {
+            Ok(name) => name,
+            Err(_) => return Err(OutOfMemory),
+        };
+        match self.cells.push(name) {
+            Ok(()) => Ok(()),
+            Err(_) => Err(OutOfMemory),
+        }
+    }
+}
