@@ -12,3 +12,4 @@ pub mod Induct
 pub mod Fields
 pub mod Laws
 pub mod Order
+pub mod Commands
