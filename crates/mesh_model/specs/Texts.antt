@@ -1,0 +1,111 @@
+-- What the reports print of a mesh.
+use Rattle.std.specs.Prelude.{ℕ, ◌+◌, ◌*◌, Bool, List, [], ◌∷◌, ◌++◌, map, flat_map, ℤ, pos, codes, decimal, unwrap_or, slice_index_or}
+use Rattle.std.specs.Fmt.{signed_decimal}
+use Rattle.std.specs.List.{join_with_byte, range_with_len}
+use Rattle.amr_num.specs.declared.Axis.{Axis}
+use Rattle.amr_num.specs.declared.Axis.TheVariants.{X, Y, Z}
+use Rattle.amr_num.specs.declared.BlockAt.{BlockAt}
+use Rattle.amr_num.specs.declared.CellAt.{CellAt}
+use Rattle.amr_num.specs.declared.FaceAt.{FaceAt}
+use Rattle.amr_num.specs.declared.EdgeAt.{EdgeAt}
+use Rattle.mesh_model.specs.declared.Shape.{Shape}
+use Rattle.mesh_model.specs.declared.script.Group.{Group}
+use Rattle.mesh_model.specs.declared.script.Group.TheVariants.{Cell, Face, Edge}
+use Rattle.mesh_model.specs.Coordinates.{extent, is_periodic, wrapped, on, with, next, face_of, edge_of}
+use Rattle.mesh_model.specs.VariableNames.{VariableNames}
+use Rattle.mesh_model.specs.Plain.{Mesh}
+use Rattle.mesh_model.specs.Totals.{total}
+use Rattle.mesh_model.specs.Views.{face_view, edge_view}
+
+-- a line of words: one space between each two, and one line feed at the end
+abbrev pub text_line : List (List ℕ) → List ℕ
+text_line words = join_with_byte 32 words ++ codes "\n"
+
+-- a line of numbers
+abbrev pub number_line : List ℤ → List ℕ
+number_line numbers = text_line (map signed_decimal numbers)
+
+-- 0, 1, and so on to n - 1
+abbrev pub places : ℕ → List ℕ
+places n = range_with_len 0 n
+
+-- the numbers of an array of nx by ny by nz places: a line runs over x, and lines go over y first, then over z
+abbrev pub array_text : ℕ → ℕ → ℕ → (ℕ → ℕ → ℕ → ℤ) → List ℕ
+array_text nx ny nz at = flat_map (λ k. flat_map (λ j. number_line (map (λ i. at i j k) (places nx))) (places ny)) (places nz)
+
+abbrev pub axis_name : Axis → List ℕ
+axis_name X = codes "x"
+axis_name Y = codes "y"
+axis_name Z = codes "z"
+
+-- how a block is named
+abbrev pub block_words : BlockAt → List (List ℕ)
+block_words b = codes "block" ∷ decimal b.level ∷ decimal b.x ∷ decimal b.y ∷ decimal b.z ∷ []
+
+-- the name of a group's variable
+abbrev pub group_name : VariableNames → Group → List ℕ
+group_name names (Cell v) = slice_index_or names.cells v []
+group_name names Face = unwrap_or names.face []
+group_name names Edge = unwrap_or names.edge []
+
+-- the cell, or the position, at the place (i, j, k) of a block of n by n by n cells
+abbrev pub in_block : ℕ → BlockAt → ℕ → ℕ → ℕ → CellAt
+in_block n b i j k = record { level = b.level; x = n * b.x + i; y = n * b.y + j; z = n * b.z + k }
+
+-- a position as it is named on the axis a: beyond a periodic side it is 0
+abbrev pub named_on : Shape → Axis → CellAt → CellAt
+named_on s a c = with a (wrapped (is_periodic s a) (extent s a c.level) (on a c)) c
+
+-- one more place on the axis a, and the same number on the others
+abbrev pub longer_on : Axis → Axis → ℕ → ℕ
+longer_on X X n = n + 1
+longer_on X Y n = n
+longer_on X Z n = n
+longer_on Y X n = n
+longer_on Y Y n = n + 1
+longer_on Y Z n = n
+longer_on Z X n = n
+longer_on Z Y n = n
+longer_on Z Z n = n + 1
+
+-- one more place on the axes other than a
+abbrev pub longer_across : Axis → Axis → ℕ → ℕ
+longer_across X X n = n
+longer_across X Y n = n + 1
+longer_across X Z n = n + 1
+longer_across Y X n = n + 1
+longer_across Y Y n = n
+longer_across Y Z n = n + 1
+longer_across Z X n = n + 1
+longer_across Z Y n = n + 1
+longer_across Z Z n = n
+
+-- a leaf's contents of a cell variable
+abbrev pub cell_block_text : Mesh → ℕ → BlockAt → List ℕ
+cell_block_text m v b =
+    text_line (codes "cell" ∷ group_name m.names (Cell v) ∷ block_words b)
+    ++ array_text m.grid.shape.n m.grid.shape.n m.grid.shape.n (λ i j k. m.cells v (in_block m.grid.shape.n b i j k))
+
+-- a leaf's face views at its own level, with the normal a
+abbrev pub face_block_text : Mesh → BlockAt → Axis → List ℕ
+face_block_text m b a =
+    let n = m.grid.shape.n in
+    text_line (codes "face" ∷ group_name m.names Face ∷ axis_name a ∷ block_words b)
+    ++ array_text (longer_on a X n) (longer_on a Y n) (longer_on a Z n) (λ i j k. face_view m.grid m.faces (face_of a (named_on m.grid.shape a (in_block n b i j k))))
+
+-- a leaf's edge views at its own level, along the axis a
+abbrev pub edge_block_text : Mesh → BlockAt → Axis → List ℕ
+edge_block_text m b a =
+    let n = m.grid.shape.n in
+    text_line (codes "edge" ∷ group_name m.names Edge ∷ axis_name a ∷ block_words b)
+    ++ array_text (longer_across a X n) (longer_across a Y n) (longer_across a Z n) (λ i j k. edge_view m.grid m.edges (edge_of a (named_on m.grid.shape (next a) (named_on m.grid.shape (next (next a)) (in_block n b i j k)))))
+
+-- the numbers of a variable, leaf by leaf
+abbrev pub variable_text : Mesh → Group → List ℕ
+variable_text m (Cell v) = flat_map (cell_block_text m v) m.grid.leaves
+variable_text m Face = flat_map (λ b. flat_map (face_block_text m b) (X ∷ Y ∷ Z ∷ [])) m.grid.leaves
+variable_text m Edge = flat_map (λ b. flat_map (edge_block_text m b) (X ∷ Y ∷ Z ∷ [])) m.grid.leaves
+
+-- the total of a cell variable, and what has flowed out
+abbrev pub total_text : Mesh → ℕ → List ℕ
+total_text m v = text_line (codes "total" ∷ group_name m.names (Cell v) ∷ signed_decimal (total m.grid (m.cells v)) ∷ codes "out" ∷ signed_decimal (m.outs v) ∷ [])
