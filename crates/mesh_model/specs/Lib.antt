@@ -11,4 +11,5 @@ pub mod Steps
 pub mod Induct
 pub mod Fields
 pub mod Laws
+pub mod Start
 pub mod Order
