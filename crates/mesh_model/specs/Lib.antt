@@ -11,5 +11,6 @@ pub mod Steps
 pub mod Induct
 pub mod Fields
 pub mod Laws
+pub mod Start
 pub mod Order
 pub mod Commands

@@ -1,0 +1,41 @@
+-- The start mesh: all roots are leaves, in Morton order, all numbers are 0 and no mark stands.
+use Rattle.std.specs.Prelude.{ℕ, ◌+◌, ◌*◌, ◌/◌, ◌%◌, Bool, false, ◌&&◌, nat_lt, if◌then◌else◌, List, [], ◌∷◌, flat_map, pos}
+use Rattle.std.specs.List.{range_with_len}
+use Rattle.amr_num.specs.declared.BlockAt.{BlockAt}
+use Rattle.mesh_model.specs.declared.Shape.{Shape}
+use Rattle.mesh_model.specs.Plain.{Grid, Mesh}
+use Rattle.mesh_model.specs.VariableNames.{VariableNames}
+
+-- the number whose bits are every third bit of m
+abbrev pub every_third : ℕ → ℕ
+every_third m = m % 2 + 2 * (m / 8 % 2) + 4 * (m / 64 % 2)
+
+-- the root at place m of the Morton order of 8 by 8 by 8 roots
+abbrev pub root_at : ℕ → BlockAt
+root_at m = record { level = 0; x = every_third m; y = every_third (m / 2); z = every_third (m / 4) }
+
+-- the root lies in the domain
+abbrev pub is_root : Shape → BlockAt → Bool
+is_root s b = nat_lt b.x s.rx && nat_lt b.y s.ry && nat_lt b.z s.rz
+
+abbrev pub root_there : Shape → BlockAt → List BlockAt
+root_there s b = if is_root s b then b ∷ [] else []
+
+-- the roots of the domain, in Morton order
+unfoldable pub start_leaves : Shape → List BlockAt
+start_leaves s = flat_map (λ m. root_there s (root_at m)) (range_with_len 0 512)
+
+abbrev pub start_grid : Shape → Grid
+start_grid s = record { shape = s; leaves = start_leaves s }
+
+abbrev pub start_mesh : Shape → VariableNames → Mesh
+start_mesh s names = record {
+  grid = start_grid s;
+  names = names;
+  cells = λ v c. pos 0;
+  outs = λ v. pos 0;
+  faces = λ f. pos 0;
+  edges = λ e. pos 0;
+  refine = λ b. false;
+  derefine = λ b. false;
+}
