@@ -14,3 +14,6 @@ pub mod Laws
 pub mod Start
 pub mod Order
 pub mod Commands
+pub mod Fill
+pub mod Texts
+pub mod Run
