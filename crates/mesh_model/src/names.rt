@@ -9,6 +9,9 @@ use std::marker::Model;
 /// The most cell variables that a mesh has.
 pub const CELL_VARIABLES: u32 = 4;
 
+/// The most bytes that a name has.
+pub const NAME_LENGTH: usize = 16;
+
 /// The names of a mesh's variables: up to four cell variables, in declared order, and the face and the
 /// edge variable where they are declared.
 #[derive(Debug, Drop)]
@@ -19,16 +22,16 @@ pub struct Names {
 }
 
 impl Model for Names {
-    ghost use Rattle.std.specs.Prelude.{◌≤◌, length, map, string_bytes};
+    ghost use Rattle.std.specs.Prelude.{◌≤◌, All, length, map, string_bytes};
     ghost use Rattle.std.specs.Option.{option_map};
     ghost use Rattle.mesh_model.specs.VariableNames.{VariableNames};
-    ghost use Rattle.mesh_model.specs.declared.names.TheConstants.{CELL_VARIABLES};
+    ghost use Rattle.mesh_model.specs.declared.names.TheConstants.{CELL_VARIABLES, NAME_LENGTH};
 
     ghost Value = { VariableNames };
 
     ghost view = { λ n. record { cells = map (λ s. string_bytes s) n.cells.items; face = option_map (λ s. string_bytes s) n.face; edge = option_map (λ s. string_bytes s) n.edge } };
 
-    ghost invariant = { λ n. length n.cells.items ≤ CELL_VARIABLES };
+    ghost invariant = { λ n. (length n.cells.items ≤ CELL_VARIABLES) × All (λ s. length (string_bytes s) ≤ NAME_LENGTH) n.cells.items };
 }
 
 impl Names {
@@ -54,7 +57,8 @@ impl Names {
     /// The name of the cell variable `v`.
     pub fn cell(&self, v: u32) -> &str
         requires { v < length self.now.cells }
-        ensures { slice_get self.now.cells v ≡ Some result.now }
+        ensures name { slice_get self.now.cells v ≡ Some result.now }
+        ensures short { length result.now ≤ NAME_LENGTH }
     {
         self.cells[v as usize].as_str()
     }
@@ -81,7 +85,8 @@ impl Names {
 
     /// Declares the cell variable `name`, after those before.
     pub fn add_cell(&mut self, alloc: Global, name: &str) -> Result<(), OutOfMemory>
-        requires { length self.old.cells < CELL_VARIABLES }
+        requires room { length self.old.cells < CELL_VARIABLES }
+        requires short { length name.now ≤ NAME_LENGTH }
         ensures ok { OnOk result (self.new ≡ record self.old { cells = self.old.cells ++ name.now ∷ [] }) }
         ensures err { OnErr result (self.new ≡ self.old) }
     {
