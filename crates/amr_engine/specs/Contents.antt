@@ -1,0 +1,42 @@
+-- The contents of the cells of level 0, as one list by coordinate: x fastest, then y, then z.
+use Rattle.std.specs.Prelude.{◌≡◌, ℕ, ◌+◌, ◌*◌, ◌/◌, ◌%◌, ◌<◌, ◌≤◌, List, [], length, ℤ, pos, All, slice_index_or}
+use Rattle.amr_num.specs.declared.Axis.TheVariants.{X, Y, Z}
+use Rattle.amr_num.specs.declared.CellAt.{CellAt}
+use Rattle.mesh_model.specs.declared.Shape.{Shape}
+use Rattle.mesh_model.specs.Coordinates.{extent}
+use Rattle.mesh_model.specs.Valid.{IsShape}
+
+-- how many cells of level 0 there are
+abbrev pub cell_count : Shape → ℕ
+cell_count s = extent s X 0 * (extent s Y 0 * extent s Z 0)
+
+-- the place of a cell in the list
+unfoldable pub place : Shape → CellAt → ℕ
+place s c = c.x + extent s X 0 * (c.y + extent s Y 0 * c.z)
+
+-- the cell at a place of the list
+abbrev pub cell_at : Shape → ℕ → CellAt
+cell_at s p = record { level = 0; x = p % extent s X 0; y = p / extent s X 0 % extent s Y 0; z = p / extent s X 0 / extent s Y 0 }
+
+-- what the list has of a cell
+abbrev pub content_in : Shape → List ℤ → CellAt → ℤ
+content_in s contents c = slice_index_or contents (place s c) (pos 0)
+
+-- a cell of level 0 of the domain
+pub record IsCell (s : Shape) (c : CellAt) : Type 0 where
+  pub level : c.level ≡ 0
+  pub x : c.x < extent s X 0
+  pub y : c.y < extent s Y 0
+  pub z : c.z < extent s Z 0
+
+-- the domain is a row of roots along x
+pub record IsRow (s : Shape) : Type 0 where
+  pub limits : IsShape s
+  pub y : s.ry ≡ 1
+  pub z : s.rz ≡ 1
+
+-- each variable has one content for each cell of level 0
+pub record IsUniform (s : Shape) (variables : ℕ) (contents : List (List ℤ)) : Type 0 where
+  pub shape : IsRow s
+  pub variables : length contents ≡ variables
+  pub whole : All (λ list. length list ≡ cell_count s) contents

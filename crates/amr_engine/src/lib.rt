@@ -1,0 +1,10 @@
+// The commands of a script, done one after the other on a mesh.
+#![tactic(auto)]
+
+
+
+pub mod line_text;
+
+
+pub use mesh_model::names::Names;
+pub use mesh_model::script::{Command, Declared, Group, Line, Script};
