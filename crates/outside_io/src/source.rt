@@ -34,7 +34,11 @@ pub enum ReadStop {
 const CHUNK: usize = 4096;
 
 /// Reads up to the end of the source, or up to `limit` bytes.
-pub fn read_up_to<S: Source>(alloc: Global, source: &mut S, limit: usize) -> Result<Vec<u8>, ReadStop>
+pub fn read_up_to<S: Source>(
+    alloc: Global,
+    source: &mut S,
+    limit: usize,
+) -> Result<Vec<u8>, ReadStop>
     ensures bytes { IfOk result (λ read. IfSome (S.left source.old) (λ bytes. (read.items ≡ take limit bytes) × (S.left source.new ≡ Some (drop limit bytes)))) }
     ensures calm { OnOk result (S.faults source.new ≡ S.faults source.old) }
     ensures fault { result ≡ Err ReadStop.Failed → Rose (S.faults source.old) (S.faults source.new) }
