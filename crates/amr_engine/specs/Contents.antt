@@ -1,9 +1,11 @@
 -- The contents of the cells of level 0, as one list by coordinate: x fastest, then y, then z.
-use Rattle.std.specs.Prelude.{◌≡◌, ℕ, ◌+◌, ◌*◌, ◌/◌, ◌%◌, ◌<◌, ◌≤◌, List, [], length, ℤ, pos, All, slice_index_or}
+use Rattle.std.specs.Prelude.{◌≡◌, ℕ, ◌+◌, ◌*◌, ◌/◌, ◌%◌, ◌<◌, ◌≤◌, List, length, map, ℤ, pos, All, slice_index_or}
 use Rattle.amr_num.specs.declared.Axis.TheVariants.{X, Y, Z}
+use Rattle.amr_num.specs.declared.BlockAt.{BlockAt}
 use Rattle.amr_num.specs.declared.CellAt.{CellAt}
 use Rattle.mesh_model.specs.declared.Shape.{Shape}
 use Rattle.mesh_model.specs.Coordinates.{extent}
+use Rattle.mesh_model.specs.Texts.{in_block, places}
 use Rattle.mesh_model.specs.Valid.{IsShape}
 
 -- how many cells of level 0 there are
@@ -29,6 +31,17 @@ pub record IsCell (s : Shape) (c : CellAt) : Type 0 where
   pub y : c.y < extent s Y 0
   pub z : c.z < extent s Z 0
 
+-- a root of the domain
+pub record IsBlock (s : Shape) (b : BlockAt) : Type 0 where
+  pub level : b.level ≡ 0
+  pub x : b.x < s.rx
+  pub y : b.y ≡ 0
+  pub z : b.z ≡ 0
+
+-- a row of a block's contents, over x
+abbrev pub row_contents : Shape → List ℤ → BlockAt → ℕ → ℕ → List ℤ
+row_contents s contents b j k = map (λ i. content_in s contents (in_block s.n b i j k)) (places s.n)
+
 -- the domain is a row of roots along x
 pub record IsRow (s : Shape) : Type 0 where
   pub limits : IsShape s
@@ -38,5 +51,5 @@ pub record IsRow (s : Shape) : Type 0 where
 -- each variable has one content for each cell of level 0
 pub record IsUniform (s : Shape) (variables : ℕ) (contents : List (List ℤ)) : Type 0 where
   pub shape : IsRow s
-  pub variables : length contents ≡ variables
+  pub each : length contents ≡ variables
   pub whole : All (λ list. length list ≡ cell_count s) contents

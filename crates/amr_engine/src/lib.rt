@@ -2,9 +2,8 @@
 #![tactic(auto)]
 
 
-
+pub mod contents;
 pub mod line_text;
-
 
 pub use mesh_model::names::Names;
 pub use mesh_model::script::{Command, Declared, Group, Line, Script};

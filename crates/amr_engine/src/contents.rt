@@ -1,0 +1,163 @@
+ghost use Rattle.amr_engine.specs.Contents.{IsBlock, IsCell, IsRow, cell_at, cell_count, content_in, place, row_contents};
+ghost use Rattle.amr_num.specs.Numbers.{Within, sum_below};
+ghost use Rattle.mesh_model.specs.Fill.{is_between, is_in_box};
+ghost use Rattle.mesh_model.specs.Texts.{in_block, places};
+ghost use Rattle.mesh_model.specs.Totals.{block_sum, sum_over};
+ghost use Rattle.mesh_model.specs.Start.{start_leaves};
+ghost use Rattle.mesh_model.specs.Touch.{high_end, low_end};
+ghost use Rattle.std.specs.Prelude.{◌≡◌, ℕ, ◌+◌, ◌*◌, ◌<◌, ◌≤◌, ◌^◌, ◌&&◌, if◌then◌else◌, nat_le, List, length, map, ℤ, pos, slice_index, slice_index_or};
+
+use amr_num::{BlockAt, CellAt};
+use mesh_model::Shape;
+
+/// How many cells of level 0 stand side by side along x.
+fn cells_along_x(shape: &Shape) -> u32
+    requires { IsRow shape.now }
+    ensures value { result ≡ shape.now.rx * shape.now.n }
+    ensures few { result ≤ 64 }
+{
+    shape.rx * shape.n
+}
+
+/// The place in a variable's contents of a cell of level 0 of the domain.
+fn place_of(shape: &Shape, cell: CellAt) -> usize
+    requires shape { IsRow shape.now }
+    requires cell { IsCell shape.now cell }
+    ensures { result ≡ place shape.now cell }
+{
+    let along_x = cells_along_x(shape);
+    let rows = cell.y + shape.n * cell.z;
+    (cell.x + along_x * rows) as usize
+}
+
+/// A row of a block's contents of a cell variable, over x.
+pub fn row<'a>(shape: &Shape, contents: &'a [i64], block: BlockAt, j: u32, k: u32) -> &'a [i64]
+    requires shape { IsRow shape.now }
+    requires whole { length contents.now ≡ cell_count shape.now }
+    requires block { IsBlock shape.now block }
+    requires place { (j < shape.now.n) × (k < shape.now.n) }
+    ensures { result.now ≡ row_contents shape.now contents.now block j k }
+{
+    let first = place_of(
+        shape,
+        CellAt {
+            level: 0,
+            x: shape.n * block.x,
+            y: j,
+            z: k,
+        },
+    );
+    &contents[first..first + shape.n as usize]
+}
+
+/// The sum of a row of at most 8 numbers.
+fn row_total(row: &[i64]) -> i128
+    requires { length row.now ≤ 8 }
+    ensures value { result ≡ sum_below (length row.now) (λ i. slice_index_or row.now i (pos 0)) }
+    ensures small { Within (2 ^ 66) result }
+{
+    let mut sum: i128 = 0;
+    for number in row {
+        sum += i128::from(*number);
+    }
+    sum
+}
+
+/// The sum of a block's contents at the place k along z.
+fn plane_total(shape: &Shape, contents: &[i64], block: BlockAt, k: u32) -> i128
+    requires shape { IsRow shape.now }
+    requires whole { length contents.now ≡ cell_count shape.now }
+    requires block { IsBlock shape.now block }
+    requires place { k < shape.now.n }
+    ensures value { result ≡ sum_below shape.now.n (λ j. sum_below shape.now.n (λ i. content_in shape.now contents.now (in_block shape.now.n block i j k))) }
+    ensures small { Within (2 ^ 69) result }
+{
+    let mut sum: i128 = 0;
+    for j in 0..shape.n {
+        sum += row_total(row(shape, contents, block, j, k));
+    }
+    sum
+}
+
+/// The sum of a block's contents.
+fn block_total(shape: &Shape, contents: &[i64], block: BlockAt) -> i128
+    requires shape { IsRow shape.now }
+    requires whole { length contents.now ≡ cell_count shape.now }
+    requires block { IsBlock shape.now block }
+    ensures value { result ≡ block_sum shape.now.n (content_in shape.now contents.now) block }
+    ensures small { Within (2 ^ 72) result }
+{
+    let mut sum: i128 = 0;
+    for k in 0..shape.n {
+        sum += plane_total(shape, contents, block, k);
+    }
+    sum
+}
+
+/// The root at x in the row of roots.
+pub fn root(x: u32) -> BlockAt
+    ensures { result ≡ record { level = 0; x = x; y = 0; z = 0 } }
+{
+    BlockAt {
+        level: 0,
+        x,
+        y: 0,
+        z: 0,
+    }
+}
+
+/// The sum of a variable's contents.
+pub fn total(shape: &Shape, contents: &[i64]) -> i128
+    requires shape { IsRow shape.now }
+    requires whole { length contents.now ≡ cell_count shape.now }
+    ensures { result ≡ sum_over (block_sum shape.now.n (content_in shape.now contents.now)) (start_leaves shape.now) }
+{
+    let mut sum: i128 = 0;
+    for x in 0..shape.rx {
+        sum += block_total(shape, contents, root(x));
+    }
+    sum
+}
+
+/// Where a cell of a level begins on an axis, in units of the finest level.
+fn begin_of(level: u32, at: u32) -> u64
+    requires level { level ≤ 10 }
+    requires at { at ≤ 2 ^ 20 }
+    ensures { result ≡ low_end level at }
+{
+    u64::from(at) << (10 - level)
+}
+
+/// Whether the cell at `at` of `level` lies whole between the cells `low` and `high` of the box's level.
+fn lies_between(box_level: u32, low: u32, high: u32, level: u32, at: u32) -> bool
+    requires levels { (box_level ≤ 10) × (level ≤ 10) }
+    requires places { (low ≤ 2 ^ 20) × (high ≤ 2 ^ 20) × (at < 2 ^ 20) }
+    ensures { result ≡ nat_le (low_end box_level low) (low_end level at) && nat_le (high_end level at) (low_end box_level high) }
+{
+    begin_of(box_level, low) <= begin_of(level, at) && begin_of(level, at + 1) <= begin_of(box_level, high)
+}
+
+/// Every cell of level 0 whose whole region lies in the box takes the value.
+pub fn fill_box(shape: &Shape, contents: &mut [i64], level: u32, low: [u32; 3], high: [u32; 3], value: i64)
+    requires shape { IsRow shape.now }
+    requires whole { length contents.old ≡ cell_count shape.now }
+    requires level { level ≤ 10 }
+    requires low { (slice_index low 0 ≤ 2 ^ 20) × (slice_index low 1 ≤ 2 ^ 20) × (slice_index low 2 ≤ 2 ^ 20) }
+    requires high { (slice_index high 0 ≤ 2 ^ 20) × (slice_index high 1 ≤ 2 ^ 20) × (slice_index high 2 ≤ 2 ^ 20) }
+    ensures length { length contents.new ≡ length contents.old }
+    ensures each { (p : ℕ) → p < length contents.old → slice_index_or contents.new p (pos 0) ≡ (if is_in_box level low high (cell_at shape.now p) then value else slice_index_or contents.old p (pos 0)) }
+{
+    let along_x = cells_along_x(shape) as usize;
+    let along_y = shape.n as usize;
+    for place in 0..contents.len() {
+        let x = (place % along_x) as u32;
+        let y = (place / along_x % along_y) as u32;
+        let z = (place / along_x / along_y) as u32;
+        if lies_between(level, low[0], high[0], 0, x)
+            && lies_between(level, low[1], high[1], 0, y)
+            && lies_between(level, low[2], high[2], 0, z)
+        {
+            contents[place] = value;
+        }
+    }
+}
