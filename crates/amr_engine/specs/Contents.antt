@@ -1,5 +1,5 @@
 -- The contents of the cells of level 0, as one list by coordinate: x fastest, then y, then z.
-use Rattle.std.specs.Prelude.{◌≡◌, ℕ, ◌+◌, ◌*◌, ◌/◌, ◌%◌, ◌<◌, ◌≤◌, List, length, map, ℤ, pos, All, slice_index_or}
+use Rattle.std.specs.Prelude.{◌≡◌, ℕ, ◌+◌, ◌*◌, ◌/◌, ◌%◌, ◌<◌, ◌≤◌, Bool, if◌then◌else◌, List, length, map, ℤ, pos, All, slice_index, slice_index_or}
 use Rattle.amr_num.specs.declared.Axis.TheVariants.{X, Y, Z}
 use Rattle.amr_num.specs.declared.BlockAt.{BlockAt}
 use Rattle.amr_num.specs.declared.CellAt.{CellAt}
@@ -53,3 +53,15 @@ pub record IsUniform (s : Shape) (variables : ℕ) (contents : List (List ℤ)) 
   pub shape : IsRow s
   pub each : length contents ≡ variables
   pub whole : All (λ list. length list ≡ cell_count s) contents
+
+-- each of three numbers is at most this
+pub record AllAtMost (most : ℕ) (numbers : List ℕ) : Type 0 where
+  pub x : slice_index numbers 0 ≤ most
+  pub y : slice_index numbers 1 ≤ most
+  pub z : slice_index numbers 2 ≤ most
+
+-- below place k those that pass the test took the value, and all others are as they were
+pub record IsFilledBelow (k : ℕ) (test : ℕ → Bool) (value : ℤ) (old new : List ℤ) : Type 0 where
+  pub size : length new ≡ length old
+  pub taken : (p : ℕ) → p < k → slice_index_or new p (pos 0) ≡ (if test p then value else slice_index_or old p (pos 0))
+  pub stays : (p : ℕ) → k ≤ p → slice_index_or new p (pos 0) ≡ slice_index_or old p (pos 0)

@@ -1,4 +1,4 @@
-ghost use Rattle.amr_engine.specs.Contents.{IsBlock, IsCell, IsRow, cell_at, cell_count, content_in, place, row_contents};
+ghost use Rattle.amr_engine.specs.Contents.{AllAtMost, IsBlock, IsCell, IsFilledBelow, IsRow, cell_at, cell_count, content_in, place, row_contents};
 ghost use Rattle.amr_num.specs.Numbers.{Within, sum_below};
 ghost use Rattle.mesh_model.specs.Fill.{is_between, is_in_box};
 ghost use Rattle.mesh_model.specs.Texts.{in_block, places};
@@ -50,8 +50,8 @@ pub fn row<'a>(shape: &Shape, contents: &'a [i64], block: BlockAt, j: u32, k: u3
     &contents[first..first + shape.n as usize]
 }
 
-/// The sum of a row of at most 8 numbers.
-fn row_total(row: &[i64]) -> i128
+/// The sum of at most 8 numbers.
+fn sum_of(row: &[i64]) -> i128
     requires { length row.now ≤ 8 }
     ensures value { result ≡ sum_below (length row.now) (λ i. slice_index_or row.now i (pos 0)) }
     ensures small { Within (2 ^ 66) result }
@@ -61,6 +61,18 @@ fn row_total(row: &[i64]) -> i128
         sum += i128::from(*number);
     }
     sum
+}
+
+/// The sum of a row of a block's contents.
+fn row_total(shape: &Shape, contents: &[i64], block: BlockAt, j: u32, k: u32) -> i128
+    requires shape { IsRow shape.now }
+    requires whole { length contents.now ≡ cell_count shape.now }
+    requires block { IsBlock shape.now block }
+    requires place { (j < shape.now.n) × (k < shape.now.n) }
+    ensures value { result ≡ sum_below shape.now.n (λ i. content_in shape.now contents.now (in_block shape.now.n block i j k)) }
+    ensures small { Within (2 ^ 66) result }
+{
+    sum_of(row(shape, contents, block, j, k))
 }
 
 /// The sum of a block's contents at the place k along z.
@@ -74,7 +86,7 @@ fn plane_total(shape: &Shape, contents: &[i64], block: BlockAt, k: u32) -> i128
 {
     let mut sum: i128 = 0;
     for j in 0..shape.n {
-        sum += row_total(row(shape, contents, block, j, k));
+        sum += row_total(shape, contents, block, j, k);
     }
     sum
 }
@@ -134,29 +146,55 @@ fn lies_between(box_level: u32, low: u32, high: u32, level: u32, at: u32) -> boo
     requires places { (low ≤ 2 ^ 20) × (high ≤ 2 ^ 20) × (at < 2 ^ 20) }
     ensures { result ≡ nat_le (low_end box_level low) (low_end level at) && nat_le (high_end level at) (low_end box_level high) }
 {
-    begin_of(box_level, low) <= begin_of(level, at) && begin_of(level, at + 1) <= begin_of(box_level, high)
+    let begins = begin_of(box_level, low) <= begin_of(level, at);
+    let ends = begin_of(level, at + 1) <= begin_of(box_level, high);
+    begins && ends
 }
 
-/// Every cell of level 0 whose whole region lies in the box takes the value.
+/// Whether the cell's whole region lies in the box of the cells of `level` from `low` up to below `high`.
+#[tactic(auto, unfolding(mesh_model::specs::Fill::is_in_box))]
+fn lies_in_box(level: u32, low: [u32; 3], high: [u32; 3], cell: CellAt) -> bool
+    requires levels { (level ≤ 10) × (cell.level ≤ 10) }
+    requires low { AllAtMost (2 ^ 20) low }
+    requires high { AllAtMost (2 ^ 20) high }
+    requires cell { (cell.x < 2 ^ 20) × (cell.y < 2 ^ 20) × (cell.z < 2 ^ 20) }
+    ensures { result ≡ is_in_box level low high cell }
+{
+    let on_x = lies_between(level, low[0], high[0], cell.level, cell.x);
+    let on_y = lies_between(level, low[1], high[1], cell.level, cell.y);
+    let on_z = lies_between(level, low[2], high[2], cell.level, cell.z);
+    on_x && on_y && on_z
+}
+
+/// The cell of level 0 at a place of a variable's contents.
+fn cell_of(shape: &Shape, place: usize) -> CellAt
+    requires shape { IsRow shape.now }
+    requires place { place < cell_count shape.now }
+    ensures cell { result ≡ cell_at shape.now place }
+    ensures near { (result.x < 4096) × (result.y < 4096) × (result.z < 4096) }
+{
+    let along_x = cells_along_x(shape) as usize;
+    let along_y = shape.n as usize;
+    CellAt {
+        level: 0,
+        x: (place % along_x) as u32,
+        y: (place / along_x % along_y) as u32,
+        z: (place / along_x / along_y) as u32,
+    }
+}
+
+/// Every cell of level 0 whose whole region lies in the box of the cells of `level` from `low` up to below
+/// `high` takes the value.
 pub fn fill_box(shape: &Shape, contents: &mut [i64], level: u32, low: [u32; 3], high: [u32; 3], value: i64)
     requires shape { IsRow shape.now }
     requires whole { length contents.old ≡ cell_count shape.now }
     requires level { level ≤ 10 }
-    requires low { (slice_index low 0 ≤ 2 ^ 20) × (slice_index low 1 ≤ 2 ^ 20) × (slice_index low 2 ≤ 2 ^ 20) }
-    requires high { (slice_index high 0 ≤ 2 ^ 20) × (slice_index high 1 ≤ 2 ^ 20) × (slice_index high 2 ≤ 2 ^ 20) }
-    ensures length { length contents.new ≡ length contents.old }
-    ensures each { (p : ℕ) → p < length contents.old → slice_index_or contents.new p (pos 0) ≡ (if is_in_box level low high (cell_at shape.now p) then value else slice_index_or contents.old p (pos 0)) }
+    requires low { AllAtMost (2 ^ 20) low }
+    requires high { AllAtMost (2 ^ 20) high }
+    ensures { IsFilledBelow (length contents.old) (λ p. is_in_box level low high (cell_at shape.now p)) value contents.old contents.new }
 {
-    let along_x = cells_along_x(shape) as usize;
-    let along_y = shape.n as usize;
     for place in 0..contents.len() {
-        let x = (place % along_x) as u32;
-        let y = (place / along_x % along_y) as u32;
-        let z = (place / along_x / along_y) as u32;
-        if lies_between(level, low[0], high[0], 0, x)
-            && lies_between(level, low[1], high[1], 0, y)
-            && lies_between(level, low[2], high[2], 0, z)
-        {
+        if lies_in_box(level, low, high, cell_of(shape, place)) {
             contents[place] = value;
         }
     }
