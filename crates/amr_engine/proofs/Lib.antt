@@ -1,2 +1,4 @@
+pub mod Joined
 pub mod Places
+pub mod Printed
 pub mod Rows

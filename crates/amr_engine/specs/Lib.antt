@@ -1,3 +1,4 @@
 pub mod Contents
 pub mod LineWords
 
+pub mod Printing

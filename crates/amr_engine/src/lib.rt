@@ -4,6 +4,7 @@
 
 pub mod contents;
 pub mod line_text;
+pub mod report;
 
 pub use mesh_model::names::Names;
 pub use mesh_model::script::{Command, Declared, Group, Line, Script};
