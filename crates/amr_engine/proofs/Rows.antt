@@ -5,7 +5,11 @@ use Rattle.std.proofs.lemmas.List.{get_or-drop}
 use Rattle.std.proofs.Common.{length-drop}
 use Rattle.std.proofs.lemmas.List.FromFn.{get_or-map-range_with_len, length-map-range_with_len, map-range_with_len_more}
 use Rattle.std.proofs.Math.ListN.{length-set}
-use Rattle.amr_engine.specs.Contents.{IsFilledBelow}
+use Rattle.std.specs.Prelude.{flat_map}
+use Rattle.mesh_model.specs.declared.Shape.{Shape}
+use Rattle.mesh_model.specs.Start.{start_leaves}
+use Rattle.mesh_model.proofs.Roots.{root_of_row, start_row}
+use Rattle.amr_engine.specs.Contents.{IsFilledBelow, IsRow}
 use Rattle.amr_num.proofs.Parts.{sum_below_same}
 use Rattle.std.specs.List.{range_with_len}
 use Rattle.std.proofs.lemmas.Int.{ints}
@@ -63,3 +67,11 @@ module _ (k : ℕ) (test : ℕ → Bool) (value : ℤ) (old now : List ℤ) (so_
     taken = below_more _ _ so_far.taken (rw failed (so_far.stays k (omega arith)));
     stays = λ p l. so_far.stays p (omega arith);
   }
+
+-- what is made of the leaves at the start, root by root
+pub flat_by_row : (s : Shape) → IsRow s → (f : BlockAt → List ℕ) → flat_map f (start_leaves s) ≡ flat_map (λ x. f (root_of_row x)) (range_with_len 0 s.rx)
+flat_by_row s row f = ap (flat_map f) (start_row s row.y row.z row.limits.rx row.limits.few_x) ∙ flat_map-map f root_of_row (range_with_len 0 s.rx)
+  where
+    flat_map-map : {A B C : Type 0} (h : B → List C) (v : A → B) (xs : List A) → flat_map h (map v xs) ≡ flat_map (λ x. h (v x)) xs
+    flat_map-map h v [] = refl
+    flat_map-map h v (x ∷ xs) = ap (λ t. h (v x) ++ t) (flat_map-map h v xs)

@@ -13,13 +13,17 @@ Prints (Ok done) before text after faults new_faults = Takes before text after �
 Prints (Err failed) before text after faults new_faults = TakesPrefix before text after × Rose faults new_faults
 
 -- the head line of a block of a cell variable
-abbrev pub cell_head : List ℕ → BlockAt → List ℕ
+unfoldable pub cell_head : List ℕ → BlockAt → List ℕ
 cell_head name b = text_line (codes "cell" ∷ name ∷ block_words b)
 
 -- the lines of a block at the place k along z
-abbrev pub plane_text : Shape → List ℤ → BlockAt → ℕ → List ℕ
+unfoldable pub plane_text : Shape → List ℤ → BlockAt → ℕ → List ℕ
 plane_text s contents b k = flat_map (λ j. number_line (row_contents s contents b j k)) (places s.n)
 
+-- the lines of a block
+unfoldable pub planes_text : Shape → List ℤ → BlockAt → List ℕ
+planes_text s contents b = flat_map (plane_text s contents b) (places s.n)
+
 -- a block of a cell variable
-abbrev pub block_text : Shape → List ℕ → List ℤ → BlockAt → List ℕ
-block_text s name contents b = cell_head name b ++ flat_map (plane_text s contents b) (places s.n)
+unfoldable pub block_text : Shape → List ℕ → List ℤ → BlockAt → List ℕ
+block_text s name contents b = cell_head name b ++ planes_text s contents b

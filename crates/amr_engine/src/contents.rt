@@ -36,7 +36,8 @@ pub fn row<'a>(shape: &Shape, contents: &'a [i64], block: BlockAt, j: u32, k: u3
     requires whole { length contents.now ≡ cell_count shape.now }
     requires block { IsBlock shape.now block }
     requires place { (j < shape.now.n) × (k < shape.now.n) }
-    ensures { result.now ≡ row_contents shape.now contents.now block j k }
+    ensures contents { result.now ≡ row_contents shape.now contents.now block j k }
+    ensures length { length result.now ≡ shape.now.n }
 {
     let first = place_of(
         shape,

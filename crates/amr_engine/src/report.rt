@@ -1,5 +1,5 @@
-ghost use Rattle.amr_engine.specs.Contents.{IsBlock, IsRow, cell_count};
-ghost use Rattle.amr_engine.specs.Printing.{Prints, block_text, cell_head, plane_text};
+ghost use Rattle.amr_engine.specs.Contents.{IsBlock, IsRow, cell_count, row_contents};
+ghost use Rattle.amr_engine.specs.Printing.{Prints, block_text, cell_head, plane_text, planes_text};
 ghost use Rattle.mesh_model.specs.Texts.{number_line, text_line};
 ghost use Rattle.mesh_model.specs.Start.{start_leaves};
 ghost use Rattle.std.specs.Fmt.{signed_decimal};
@@ -26,6 +26,7 @@ fn write_numbers(line: &mut LineText, row: &[i64])
 }
 
 /// The head line of a block of a cell variable.
+#[tactic(auto, unfolding(crate::specs::Printing::cell_head))]
 fn write_cell_head(line: &mut LineText, name: &str, block: BlockAt)
     requires { length name.now ≤ 16 }
     ensures { line.new ≡ cell_head name.now block }
@@ -47,13 +48,23 @@ fn print_line<K: Sink>(sink: &mut K, line: &LineText) -> Result<(), Failed>
     write_all(sink, line.as_bytes())
 }
 
-/// Prints a row of numbers.
-fn print_row<K: Sink>(sink: &mut K, line: &mut LineText, row: &[i64]) -> Result<(), Failed>
-    requires some { 0 < length row.now }
-    requires few { length row.now ≤ 20 }
-    ensures { Prints result (K.taken sink.old) (number_line row.now) (K.taken sink.new) (K.faults sink.old) (K.faults sink.new) }
+/// Prints a row of a block's contents, over x.
+fn print_row<K: Sink>(
+    sink: &mut K,
+    line: &mut LineText,
+    shape: &Shape,
+    contents: &[i64],
+    block: BlockAt,
+    j: u32,
+    k: u32,
+) -> Result<(), Failed>
+    requires shape { IsRow shape.now }
+    requires whole { length contents.now ≡ cell_count shape.now }
+    requires block { IsBlock shape.now block }
+    requires place { (j < shape.now.n) × (k < shape.now.n) }
+    ensures { Prints result (K.taken sink.old) (number_line (row_contents shape.now contents.now block j k)) (K.taken sink.new) (K.faults sink.old) (K.faults sink.new) }
 {
-    write_numbers(line, row);
+    write_numbers(line, row(shape, contents, block, j, k));
     print_line(sink, line)
 }
 
@@ -73,7 +84,26 @@ fn print_plane<K: Sink>(
     ensures { Prints result (K.taken sink.old) (plane_text shape.now contents.now block k) (K.taken sink.new) (K.faults sink.old) (K.faults sink.new) }
 {
     for j in 0..shape.n {
-        print_row(sink, line, row(shape, contents, block, j, k))?;
+        print_row(sink, line, shape, contents, block, j, k)?;
+    }
+    Ok(())
+}
+
+/// Prints the lines of a block.
+fn print_planes<K: Sink>(
+    sink: &mut K,
+    line: &mut LineText,
+    shape: &Shape,
+    contents: &[i64],
+    block: BlockAt,
+) -> Result<(), Failed>
+    requires shape { IsRow shape.now }
+    requires whole { length contents.now ≡ cell_count shape.now }
+    requires block { IsBlock shape.now block }
+    ensures { Prints result (K.taken sink.old) (planes_text shape.now contents.now block) (K.taken sink.new) (K.faults sink.old) (K.faults sink.new) }
+{
+    for k in 0..shape.n {
+        print_plane(sink, line, shape, contents, block, k)?;
     }
     Ok(())
 }
@@ -95,10 +125,7 @@ fn print_block<K: Sink>(
 {
     write_cell_head(line, name, block);
     print_line(sink, line)?;
-    for k in 0..shape.n {
-        print_plane(sink, line, shape, contents, block, k)?;
-    }
-    Ok(())
+    print_planes(sink, line, shape, contents, block)
 }
 
 /// Prints the contents of a cell variable, block by block.

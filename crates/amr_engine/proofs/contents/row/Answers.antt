@@ -23,8 +23,8 @@ slice_bounds-result-end c =
     let few = few_cells c.args.shape.now c.requires.shape in
     omega arith
 
-pub returns : goal.returns
-returns c =
+pub returns-clause-contents : goal.returns-clause-contents
+returns-clause-contents c =
     let within = row_within c.args.shape.now c.args.block c.args.j c.args.k c.requires.shape c.requires.block c.requires.place.0 c.requires.place.1 in
     let s = c.args.shape.now in
     let p = c.place_of-first.result in

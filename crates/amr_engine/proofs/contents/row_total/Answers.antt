@@ -7,15 +7,8 @@ use Rattle.amr_engine.specs.Contents.{content_in}
 use Rattle.amr_engine.proofs.Rows.{row_sum}
 use Rattle.amr_engine.proofs.contents.row_total.Goals as goal
 
-pub sum_of-requires : goal.sum_of-requires
-sum_of-requires c =
-    let s = c.args.shape.now in
-    let size : length c.row.result.now ≡ s.n = ap length c.row.ensures ∙ length-map-range_with_len (λ i. content_in s c.args.contents.now (in_block s.n c.args.block i c.args.j c.args.k)) 0 s.n in
-    let most = c.requires.shape.limits.most_n in
-    omega arith
-
 pub returns-clause-value : goal.returns-clause-value
 returns-clause-value c =
     let s = c.args.shape.now in
-    let same : c.sum_of.result ≡ sum_below s.n (λ i. content_in s c.args.contents.now (in_block s.n c.args.block i c.args.j c.args.k)) = c.sum_of.ensures.value ∙ row_sum (λ i. content_in s c.args.contents.now (in_block s.n c.args.block i c.args.j c.args.k)) c.row.result.now s.n c.row.ensures in
+    let same : c.sum_of.result ≡ sum_below s.n (λ i. content_in s c.args.contents.now (in_block s.n c.args.block i c.args.j c.args.k)) = c.sum_of.ensures.value ∙ row_sum (λ i. content_in s c.args.contents.now (in_block s.n c.args.block i c.args.j c.args.k)) c.row.result.now s.n c.row.ensures.contents in
     grind (arith, ints)
