@@ -1,9 +1,10 @@
 -- The contents of the cells of level 0, as one list by coordinate: x fastest, then y, then z.
-use Rattle.std.specs.Prelude.{◌≡◌, ℕ, ◌+◌, ◌*◌, ◌/◌, ◌%◌, ◌<◌, ◌≤◌, Bool, if◌then◌else◌, List, length, map, ℤ, pos, All, slice_index, slice_index_or}
+use Rattle.std.specs.Prelude.{◌≡◌, ℕ, ◌+◌, ◌*◌, ◌/◌, ◌%◌, ◌<◌, ◌≤◌, Bool, if◌then◌else◌, List, [], length, map, ℤ, pos, None, slice_index, slice_index_or}
 use Rattle.amr_num.specs.declared.Axis.TheVariants.{X, Y, Z}
 use Rattle.amr_num.specs.declared.BlockAt.{BlockAt}
 use Rattle.amr_num.specs.declared.CellAt.{CellAt}
 use Rattle.mesh_model.specs.declared.Shape.{Shape}
+use Rattle.mesh_model.specs.declared.script.Declared.{Declared}
 use Rattle.mesh_model.specs.Coordinates.{extent}
 use Rattle.mesh_model.specs.Texts.{in_block, places}
 use Rattle.mesh_model.specs.Valid.{IsShape}
@@ -48,11 +49,13 @@ pub record IsRow (s : Shape) : Type 0 where
   pub y : s.ry ≡ 1
   pub z : s.rz ≡ 1
 
--- each variable has one content for each cell of level 0
-pub record IsUniform (s : Shape) (variables : ℕ) (contents : List (List ℤ)) : Type 0 where
-  pub shape : IsRow s
-  pub each : length contents ≡ variables
-  pub whole : All (λ list. length list ≡ cell_count s) contents
+-- the variables are cell variables, and each has one content for each cell of level 0
+pub record IsUniform (d : Declared) (contents : List (List ℤ)) : Type 0 where
+  pub shape : IsRow d.shape
+  pub faces : d.names.face ≡ None
+  pub edges : d.names.edge ≡ None
+  pub each : length contents ≡ length d.names.cells
+  pub whole : (v : ℕ) → v < length contents → length (slice_index_or contents v []) ≡ cell_count d.shape
 
 -- each of three numbers is at most this
 pub record AllAtMost (most : ℕ) (numbers : List ℕ) : Type 0 where

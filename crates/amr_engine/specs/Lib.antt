@@ -1,4 +1,5 @@
 pub mod Contents
 pub mod LineWords
-
 pub mod Printing
+pub mod Plain
+pub mod Stopping

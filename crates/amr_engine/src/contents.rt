@@ -5,10 +5,11 @@ ghost use Rattle.mesh_model.specs.Texts.{in_block, places};
 ghost use Rattle.mesh_model.specs.Totals.{block_sum, sum_over};
 ghost use Rattle.mesh_model.specs.Start.{start_leaves};
 ghost use Rattle.mesh_model.specs.Touch.{high_end, low_end};
-ghost use Rattle.std.specs.Prelude.{◌≡◌, ℕ, ◌+◌, ◌*◌, ◌<◌, ◌≤◌, ◌^◌, ◌&&◌, if◌then◌else◌, nat_le, List, length, map, ℤ, pos, slice_index, slice_index_or};
+ghost use Rattle.std.specs.Prelude.{◌≡◌, ℕ, ◌+◌, ◌*◌, ◌<◌, ◌≤◌, ◌^◌, ◌&&◌, if◌then◌else◌, nat_le, List, length, map, replicate, IfOk, ℤ, pos, true, slice_index, slice_index_or};
 
-use amr_num::{BlockAt, CellAt};
+use amr_num::{BlockAt, CellAt, OutOfMemory};
 use mesh_model::Shape;
+use std::alloc::Global;
 
 /// How many cells of level 0 stand side by side along x.
 fn cells_along_x(shape: &Shape) -> u32
@@ -17,6 +18,34 @@ fn cells_along_x(shape: &Shape) -> u32
     ensures few { result ≤ 64 }
 {
     shape.rx * shape.n
+}
+
+/// How many cells of level 0 the domain has.
+fn cells_in(shape: &Shape) -> usize
+    requires { IsRow shape.now }
+    ensures { result ≡ cell_count shape.now }
+{
+    let across = shape.n * shape.n;
+    (cells_along_x(shape) * across) as usize
+}
+
+/// A list of zeros for each cell variable, one for each cell of level 0.
+pub fn zeros(alloc: Global, shape: &Shape, variables: u32) -> Result<Vec<Vec<i64>>, OutOfMemory>
+    requires { IsRow shape.now }
+    ensures { IfOk result (λ lists. map (λ list. list.items) lists.items ≡ replicate variables (replicate (cell_count shape.now) (pos 0))) }
+{
+    let cells = cells_in(shape);
+    let mut lists = Vec::new(alloc);
+    for _variable in 0..variables {
+        let list = match vec![in alloc; 0i64; cells] {
+            Ok(list) => list,
+            Err(_) => return Err(OutOfMemory),
+        };
+        if lists.push(list).is_err() {
+            return Err(OutOfMemory);
+        }
+    }
+    Ok(lists)
 }
 
 /// The place in a variable's contents of a cell of level 0 of the domain.
@@ -199,4 +228,11 @@ pub fn fill_box(shape: &Shape, contents: &mut [i64], level: u32, low: [u32; 3], 
             contents[place] = value;
         }
     }
+}
+
+/// Every cell of level 0 takes the value.
+pub fn fill_all(contents: &mut [i64], value: i64)
+    ensures { IsFilledBelow (length contents.old) (λ p. true) value contents.old contents.new }
+{
+    contents.fill(value);
 }

@@ -1,8 +1,8 @@
 // The commands of a script, done one after the other on a mesh.
 #![tactic(auto)]
 
-
 pub mod contents;
+pub mod engine;
 pub mod line_text;
 pub mod report;
 
