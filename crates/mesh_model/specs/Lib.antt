@@ -1,5 +1,7 @@
 pub mod VariableNames
 pub mod Coordinates
+pub mod Outside
+pub mod Limits
 pub mod Plain
 pub mod Balance
 pub mod Views
