@@ -11,9 +11,9 @@ use Rattle.amr_num.specs.Numbers.{part, carry}
 use Rattle.mesh_model.specs.VariableNames.{no_names}
 use Rattle.mesh_model.specs.Coordinates.{wrapped}
 use Rattle.mesh_model.specs.Plain.{Grid, Mesh, is_leaf_block, is_split_block, is_leaf_face, is_split_face, is_leaf_edge, is_split_edge, is_canonical_at}
-use Rattle.mesh_model.specs.Views.{cell_view, sum_down, part_up, face_down, face_up, face_view, edge_view, edge_down, edge_up}
+use Rattle.mesh_model.specs.Views.{sum_down, view_at, face_down, face_up, face_view, edge_view, edge_down, edge_up}
 use Rattle.mesh_model.specs.Totals.{box_sum, leaf_sum, total}
-use Rattle.mesh_model.specs.Steps.{Speeds, advect, on_outer_side}
+use Rattle.mesh_model.specs.Advect.{Speeds, advect, on_outer_side}
 use Rattle.mesh_model.specs.Induct.{leaf_emf, inducted, curled}
 
 one_block : List SideKind → Grid
@@ -36,19 +36,19 @@ says : Mesh → List ℤ
 says m = total m.grid (m.cells 0) ∷ m.outs 0 ∷ []
 
 row8a : says (advect (row8 (λ c. cond (is_at 2 c) (pos 7) (pos 0)) (pos 0)) 0 right) ≡ pos 7 ∷ pos 0 ∷ []
-unfolding says row8 one_block is_at right box_sum leaf_sum on_outer_side part carry is_leaf_block is_split_block is_leaf_face is_split_face wrapped cell_view sum_down part_up face_down
+unfolding says row8 one_block is_at right box_sum leaf_sum on_outer_side part carry is_leaf_block is_split_block is_leaf_face is_split_face wrapped sum_down view_at face_down
 row8a = refl
 
 row8b : says (advect (row8 (λ c. cond (is_at 3 c) (pos 7) (pos 0)) (pos 0)) 0 right) ≡ pos 0 ∷ pos 7 ∷ []
-unfolding says row8 one_block is_at right box_sum leaf_sum on_outer_side part carry is_leaf_block is_split_block is_leaf_face is_split_face wrapped cell_view sum_down part_up face_down
+unfolding says row8 one_block is_at right box_sum leaf_sum on_outer_side part carry is_leaf_block is_split_block is_leaf_face is_split_face wrapped sum_down view_at face_down
 row8b = refl
 
 row8c : says (advect (row8 (λ c. cond (is_at 0 c) (pos 4) (pos 0)) (pos 7)) 0 left) ≡ pos 4 ∷ pos 7 ∷ []
-unfolding says row8 one_block is_at left box_sum leaf_sum on_outer_side part carry is_leaf_block is_split_block is_leaf_face is_split_face wrapped cell_view sum_down part_up face_down
+unfolding says row8 one_block is_at left box_sum leaf_sum on_outer_side part carry is_leaf_block is_split_block is_leaf_face is_split_face wrapped sum_down view_at face_down
 row8c = refl
 
 row8d : says (advect (row8 (λ c. cond (is_at 0 c) (pos 4) (cond (is_at 3 c) (pos 2) (pos 0))) (pos 7)) 0 left) ≡ pos 8 ∷ pos 5 ∷ []
-unfolding says row8 one_block is_at left box_sum leaf_sum on_outer_side part carry is_leaf_block is_split_block is_leaf_face is_split_face wrapped cell_view sum_down part_up face_down
+unfolding says row8 one_block is_at left box_sum leaf_sum on_outer_side part carry is_leaf_block is_split_block is_leaf_face is_split_face wrapped sum_down view_at face_down
 row8d = refl
 
 -- row 23, then R8.1

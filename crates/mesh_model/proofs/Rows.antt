@@ -8,9 +8,11 @@ use Rattle.amr_num.specs.Numbers.{part, carry}
 use Rattle.mesh_model.specs.VariableNames.{no_names}
 use Rattle.mesh_model.specs.Plain.{Grid, Mesh, is_leaf_block, is_split_block, is_leaf_face, is_split_face}
 use Rattle.mesh_model.specs.Coordinates.{wrapped}
-use Rattle.mesh_model.specs.Views.{cell_view, sum_down, part_up, face_down}
+use Rattle.mesh_model.specs.Views.{sum_down, view_at, face_down}
 use Rattle.mesh_model.specs.Touch.{touches, stretches_meet, low_end, high_end}
-use Rattle.mesh_model.specs.Steps.{regrid, advected, refined, merged, is_ready, is_blocked, new_grid}
+use Rattle.mesh_model.specs.Regrid.{regrid, new_grid}
+use Rattle.mesh_model.specs.Advect.{advected}
+use Rattle.mesh_model.specs.Closure.{refined, merged, is_ready, is_blocked}
 
 periodic : List SideKind
 periodic = Periodic ∷ Periodic ∷ Periodic ∷ Periodic ∷ Periodic ∷ Periodic ∷ []
@@ -38,7 +40,7 @@ row6_after : CellAt → ℤ
 row6_after = advected (one_block 0) row6_u (record { x = pos 524288; y = pos 0; z = pos 0 })
 
 row6 : ◌≡◌ {A = List ℤ} (row6_after (cell 0 0 0 0) ∷ row6_after (cell 0 1 0 0) ∷ row6_after (cell 0 2 0 0) ∷ row6_after (cell 0 3 0 0) ∷ []) (pos 3 ∷ pos 0 ∷ pos 0 ∷ pos 3 ∷ [])
-unfolding row6_after row6_u one_block periodic root cell is_at part carry is_leaf_block is_split_block is_leaf_face is_split_face wrapped cell_view sum_down part_up face_down
+unfolding row6_after row6_u one_block periodic root cell is_at part carry is_leaf_block is_split_block is_leaf_face is_split_face wrapped sum_down view_at face_down
 row6 = refl
 
 -- row 4
@@ -49,7 +51,7 @@ row4_after : CellAt → ℤ
 row4_after = (regrid (mesh 1 (one_block 1) row4_u (root 0 0 0))).cells 0
 
 row4 : ◌≡◌ {A = List ℤ} (row4_after (cell 1 0 0 0) ∷ row4_after (cell 1 1 0 0) ∷ row4_after (cell 1 0 1 0) ∷ row4_after (cell 1 1 1 0) ∷ row4_after (cell 1 0 0 1) ∷ row4_after (cell 1 7 7 7) ∷ []) (pos 3 ∷ pos 3 ∷ pos 3 ∷ pos 2 ∷ pos 2 ∷ pos 0 ∷ [])
-unfolding row4_after row4_u mesh one_block periodic root cell is_at part is_leaf_block is_split_block cell_view sum_down part_up refined merged is_ready is_blocked touches stretches_meet low_end high_end
+unfolding row4_after row4_u mesh one_block periodic root cell is_at part is_leaf_block is_split_block sum_down view_at refined merged is_ready is_blocked touches stretches_meet low_end high_end
 row4 = refl
 
 -- row 9
@@ -96,9 +98,9 @@ row22_left : CellAt → ℤ
 row22_left = advected row22_grid row22_right (record { x = negsuc 524287; y = pos 0; z = pos 0 })
 
 row22a : ◌≡◌ {A = List ℤ} (row22_right (cell 0 4 0 0) ∷ row22_right (cell 0 5 0 0) ∷ row22_right (cell 1 7 0 0) ∷ row22_right (cell 1 6 0 0) ∷ []) (pos 5 ∷ pos 0 ∷ pos 0 ∷ pos 0 ∷ [])
-unfolding row22_right row22_u row22_grid row22_before mesh root cell is_at part carry is_leaf_block is_split_block is_leaf_face is_split_face wrapped cell_view sum_down part_up face_down refined merged is_ready is_blocked touches stretches_meet low_end high_end
+unfolding row22_right row22_u row22_grid row22_before mesh root cell is_at part carry is_leaf_block is_split_block is_leaf_face is_split_face wrapped sum_down view_at face_down refined merged is_ready is_blocked touches stretches_meet low_end high_end
 row22a = refl
 
 row22b : ◌≡◌ {A = List ℤ} (row22_left (cell 0 4 0 0) ∷ row22_left (cell 1 7 0 0) ∷ row22_left (cell 1 7 1 0) ∷ row22_left (cell 1 7 0 1) ∷ row22_left (cell 1 7 1 1) ∷ []) (pos 2 ∷ pos 1 ∷ pos 1 ∷ pos 1 ∷ pos 0 ∷ [])
-unfolding row22_left row22_right row22_u row22_grid row22_before mesh root cell is_at part carry is_leaf_block is_split_block is_leaf_face is_split_face wrapped cell_view sum_down part_up face_down refined merged is_ready is_blocked touches stretches_meet low_end high_end
+unfolding row22_left row22_right row22_u row22_grid row22_before mesh root cell is_at part carry is_leaf_block is_split_block is_leaf_face is_split_face wrapped sum_down view_at face_down refined merged is_ready is_blocked touches stretches_meet low_end high_end
 row22b = refl

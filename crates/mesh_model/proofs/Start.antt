@@ -1,14 +1,9 @@
 -- The grid whose leaves are the roots is valid.
-use Rattle.std.proofs.Common.{◌≡◌, ℕ, ◌-◌, ◌*◌, ◌/◌, ◌^◌, ◌<◌, ◌&&◌, ◌==◌, false, pos, refl, sym, ap, arith, inl, inr, subst, [], ◌∷◌, length, eqb-true}
+use Rattle.std.proofs.Common.{◌≡◌, ℕ, ◌-◌, ◌*◌, ◌/◌, ◌^◌, ◌<◌, refl, ap, arith}
 use Rattle.amr_num.specs.declared.BlockAt.{BlockAt}
-use Rattle.mesh_model.specs.VariableNames.{no_names}
-use Rattle.mesh_model.specs.declared.Shape.{Shape}
-use Rattle.mesh_model.specs.Plain.{Grid, Mesh, is_leaf_block}
-use Rattle.mesh_model.specs.Steps.{regrid, refined, merged, is_ready, is_blocked}
-use Rattle.mesh_model.specs.Touch.{touches, stretches_meet, low_end, high_end}
-use Rattle.mesh_model.specs.Valid.{ValidMesh, InDomain, LiesIn, Tiles, IsShape, Valid, AllRoots}
-use Rattle.mesh_model.proofs.Tests.{and_left, and_right}
-use Rattle.mesh_model.proofs.Ruled.{regrid_valid}
+use Rattle.mesh_model.specs.Plain.{Grid}
+use Rattle.mesh_model.specs.Valid.{LiesIn, Tiles, Valid, AllRoots}
+use Rattle.mesh_model.specs.Limits.{IsShape}
 use Rattle.mesh_model.proofs.Tiling.{nested, same_level, domain_up}
 
 zero_on : (l x : ℕ) → l ≡ 0 → x < 1 * 2 ^ l → x ≡ 0
@@ -41,62 +36,3 @@ module _ (g : Grid) (shape : IsShape g.shape) (roots : AllRoots g) where
     tiles = start_tiles;
     rule = record { near = λ leaf other i j t. let one = (roots.root leaf i).1 in omega arith };
   }
-
--- ---- the premises can be met: one root, marked refine
-
-one_shape : Shape
-one_shape = record { rx = 1; ry = 1; rz = 1; n = 4; g = 1; min = 0; max = 2; sides = [] }
-
-first_root : BlockAt
-first_root = record { level = 0; x = 0; y = 0; z = 0 }
-
-one_mesh : Mesh
-one_mesh = record {
-  grid = record { shape = one_shape; leaves = first_root ∷ [] };
-  names = no_names;
-  cells = λ v c. pos 0;
-  outs = λ v. pos 0;
-  faces = λ f. pos 0;
-  edges = λ e. pos 0;
-  refine = λ b. (b.level == 0) && ((b.x == 0) && ((b.y == 0) && (b.z == 0)));
-  derefine = λ b. false;
-}
-
-is_first : (b : BlockAt) → b.level ≡ 0 → b.x ≡ 0 → b.y ≡ 0 → b.z ≡ 0 → first_root ≡ b
-unfolding first_root
-is_first b l x y z = sym (λ i. record { level = l i; x = x i; y = y i; z = z i })
-
-one_roots : AllRoots one_mesh.grid
-unfolding one_mesh one_shape first_root
-one_roots = record {
-  root = λ b i. elim i [
-    | inl e ↦ (subst (λ u. InDomain one_shape u) e (record { level = omega arith; x = omega arith; y = omega arith; z = omega arith }), ap (λ (u : BlockAt). u.level) (sym e))
-    | inr none ↦ absurd none
-  ];
-  every = λ b d level. inl (is_first b level (zero_on b.level b.x level d.x) (zero_on b.level b.y level d.y) (zero_on b.level b.z level d.z));
-}
-
-one_valid : ValidMesh one_mesh
-unfolding one_mesh one_shape first_root
-one_valid = record {
-  grid = start_valid one_mesh.grid (record { max = omega arith; n = omega arith; least_n = omega arith; most_n = omega arith; rx = omega arith; ry = omega arith; rz = omega arith; few_x = omega arith; few_y = omega arith; few_z = omega arith }) one_roots;
-  marks = record {
-    refine = λ b h.
-        let l = eqb-true _ _ (and_left (b.level == 0) ((b.x == 0) && ((b.y == 0) && (b.z == 0))) h) in
-        let rest = and_right (b.level == 0) ((b.x == 0) && ((b.y == 0) && (b.z == 0))) h in
-        let x = eqb-true _ _ (and_left (b.x == 0) ((b.y == 0) && (b.z == 0)) rest) in
-        let more = and_right (b.x == 0) ((b.y == 0) && (b.z == 0)) rest in
-        let y = eqb-true _ _ (and_left (b.y == 0) (b.z == 0) more) in
-        let z = eqb-true _ _ (and_right (b.y == 0) (b.z == 0) more) in
-        (inl (is_first b l x y z), omega arith);
-    derefine = λ b h. cc;
-  };
-}
-
--- eight leaves then, in a valid mesh
-eight_leaves : length (regrid one_mesh).grid.leaves ≡ 8
-unfolding one_mesh one_shape first_root is_leaf_block refined merged is_ready is_blocked touches stretches_meet low_end high_end
-eight_leaves = refl
-
-after_valid : ValidMesh (regrid one_mesh)
-after_valid = regrid_valid one_mesh one_valid

@@ -8,7 +8,7 @@ use Rattle.mesh_model.specs.Coordinates.{on, next, face_of, edge_numbers}
 use Rattle.mesh_model.specs.Plain.{Grid, Mesh, on_faces}
 use Rattle.mesh_model.specs.Views.{face_view, edge_view}
 use Rattle.mesh_model.specs.Circulation.{circulation}
-use Rattle.mesh_model.specs.Steps.{Speeds, speed, is_closed_at, blown_from}
+use Rattle.mesh_model.specs.Advect.{Speeds, speed, is_closed_at, blown_from}
 
 -- the edge lies on a closed side
 abbrev pub edge_on_closed_side : Shape → EdgeAt → Bool
