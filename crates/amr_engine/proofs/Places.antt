@@ -45,8 +45,8 @@ row_within s b j k row block hj hk =
 pub few_cells : (s : Shape) → IsRow s → cell_count s ≤ 4096
 few_cells s row =
     let count = count_in_row s row in
-    let square : s.n * s.n ≤ 8 * 8 = mul-le s.n s.n 8 8 row.limits.most_n row.limits.most_n in
-    let line : s.rx * s.n ≤ 8 * 8 = mul-le s.rx s.n 8 8 row.limits.few_x row.limits.most_n in
+    let square : s.n * s.n ≤ 8 * 8 = mul-le s.n s.n 8 8 row.few_cells row.few_cells in
+    let line : s.rx * s.n ≤ 8 * 8 = mul-le s.rx s.n 8 8 row.few_roots row.few_cells in
     let all : s.rx * s.n * (s.n * s.n) ≤ 64 * 64 = mul-le (s.rx * s.n) (s.n * s.n) 64 64 line square in
     omega (arith, count, all)
 

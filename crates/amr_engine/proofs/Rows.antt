@@ -70,7 +70,7 @@ module _ (k : ℕ) (test : ℕ → Bool) (value : ℤ) (old now : List ℤ) (so_
 
 -- what is made of the leaves at the start, root by root
 pub flat_by_row : (s : Shape) → IsRow s → (f : BlockAt → List ℕ) → flat_map f (start_leaves s) ≡ flat_map (λ x. f (root_of_row x)) (range_with_len 0 s.rx)
-flat_by_row s row f = ap (flat_map f) (start_row s row.y row.z row.limits.rx row.limits.few_x) ∙ flat_map-map f root_of_row (range_with_len 0 s.rx)
+flat_by_row s row f = ap (flat_map f) (start_row s row.y row.z row.some_roots row.few_roots) ∙ flat_map-map f root_of_row (range_with_len 0 s.rx)
   where
     flat_map-map : {A B C : Type 0} (h : B → List C) (v : A → B) (xs : List A) → flat_map h (map v xs) ≡ flat_map (λ x. h (v x)) xs
     flat_map-map h v [] = refl

@@ -7,7 +7,6 @@ use Rattle.mesh_model.specs.declared.Shape.{Shape}
 use Rattle.mesh_model.specs.declared.script.Declared.{Declared}
 use Rattle.mesh_model.specs.Coordinates.{extent}
 use Rattle.mesh_model.specs.Texts.{in_block, places}
-use Rattle.mesh_model.specs.Valid.{IsShape}
 
 -- how many cells of level 0 there are
 abbrev pub cell_count : Shape → ℕ
@@ -43,9 +42,12 @@ pub record IsBlock (s : Shape) (b : BlockAt) : Type 0 where
 abbrev pub row_contents : Shape → List ℤ → BlockAt → ℕ → ℕ → List ℤ
 row_contents s contents b j k = map (λ i. content_in s contents (in_block s.n b i j k)) (places s.n)
 
--- the domain is a row of roots along x
+-- the domain is a row of 1 to 8 roots along x, and blocks have at most 8 cells along each axis
 pub record IsRow (s : Shape) : Type 0 where
-  pub limits : IsShape s
+  pub some_cells : 0 < s.n
+  pub few_cells : s.n ≤ 8
+  pub some_roots : 0 < s.rx
+  pub few_roots : s.rx ≤ 8
   pub y : s.ry ≡ 1
   pub z : s.rz ≡ 1
 

@@ -123,7 +123,7 @@ impl Engine {
     /// Every leaf cell whose whole region lies in the box takes the value.
     fn fill_box(&mut self, var: u32, level: u32, low: [u32; 3], high: [u32; 3], value: i64)
         requires variable { IsCellVariable (declared_of self.old).names var }
-        requires box { IsBox (declared_of self.old).shape level low high }
+        requires place { IsBox (declared_of self.old).shape level low high }
         ensures mesh { plain self.new ≡ plain_fill_box (plain self.old) var level low high value }
         ensures declared { declared_of self.new ≡ declared_of self.old }
     {

@@ -19,6 +19,6 @@ loop-x-preserved c =
 pub returns : goal.returns
 returns c =
     let s = c.args.shape.now in
-    let leaves = start_row s c.requires.shape.y c.requires.shape.z c.requires.shape.limits.rx c.requires.shape.limits.few_x in
+    let leaves = start_row s c.requires.shape.y c.requires.shape.z c.requires.shape.some_roots c.requires.shape.few_roots in
     let all : c.loop-x.x ≡ s.rx = omega arith in
     c.loop-x.invariant.so_far ∙ ap (λ m. sum_over (block_sum s.n (content_in s c.args.contents.now)) (map root_of_row (range_with_len 0 m))) all ∙ ap (sum_over (block_sum s.n (content_in s c.args.contents.now))) (sym leaves)
