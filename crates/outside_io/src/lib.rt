@@ -1,7 +1,10 @@
 // The outside of a program as three traits: a source of bytes, a sink of bytes, and a disk of two areas.
 #![tactic(auto)]
 
+mod calls;
 pub mod disk;
+pub mod memory_sink;
+pub mod memory_source;
 pub mod sink;
 pub mod source;
 
