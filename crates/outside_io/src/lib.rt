@@ -3,6 +3,7 @@
 
 mod calls;
 pub mod disk;
+pub mod memory_disk;
 pub mod memory_sink;
 pub mod memory_source;
 pub mod sink;
