@@ -5,6 +5,7 @@ ghost use Rattle.std.specs.List.{list_any};
 ghost use Rattle.std.specs.Prelude.{◌≡◌, ℕ, ◌+◌, ◌==◌, List};
 
 use crate::Failed;
+use crate::faults::raise;
 use std::marker::Model;
 
 /// How many calls there were, which of them fail, and how many did.
@@ -59,8 +60,7 @@ impl Calls {
         ensures rose { Rose self.old.faults self.new.faults }
         ensures counted { self.new ≡ record { made = self.old.made; fails = self.old.fails; faults = counted self.old.faults } }
     {
-        self.faults = self.faults.saturating_add(1);
-        Failed
+        raise(&mut self.faults)
     }
 
     pub fn made(&self) -> u64

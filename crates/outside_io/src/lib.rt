@@ -3,11 +3,15 @@
 
 mod calls;
 pub mod disk;
+mod faults;
+pub mod folder_disk;
 pub mod memory_disk;
 pub mod memory_sink;
 pub mod memory_source;
 pub mod sink;
 pub mod source;
+pub mod std_sink;
+pub mod std_source;
 
 /// A call on the outside failed.
 #[derive(Clone, Copy, Debug, PartialEq, Eq)]
