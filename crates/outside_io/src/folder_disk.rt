@@ -1,4 +1,6 @@
 // Two files of a folder as a disk.
+ghost use Rattle.std.specs.Prelude.{◌≤◌, length, IfOk};
+
 use crate::Failed;
 use crate::disk::{Area, Disk};
 use crate::faults::counting;

@@ -12,6 +12,8 @@ pub mod sink;
 pub mod source;
 pub mod std_sink;
 pub mod std_source;
+#[cfg(test)]
+mod tests;
 
 /// A call on the outside failed.
 #[derive(Clone, Copy, Debug, PartialEq, Eq)]
