@@ -1,5 +1,5 @@
 -- What the objects in memory hold, when their calls fail, and what the others leave.
-use Rattle.std.specs.Prelude.{ℕ, ◌+◌, ◌-◌, ◌<◌, ◌≤◌, min, Bool, ◌||◌, ◌&&◌, nat_lt, nat_le, List, ◌++◌, length, take, drop}
+use Rattle.std.specs.Prelude.{ℕ, ◌+◌, ◌-◌, min, Bool, ◌||◌, ◌&&◌, nat_lt, nat_le, List, ◌++◌, length, drop}
 use Rattle.outside_io.specs.Areas.{Areas}
 use Rattle.outside_io.specs.Calls.{Calls, named, passed, failed}
 

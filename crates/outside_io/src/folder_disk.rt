@@ -1,5 +1,5 @@
 // Two files of a folder as a disk.
-ghost use Rattle.std.specs.Prelude.{◌≤◌, length, IfOk};
+ghost use Rattle.std.specs.Prelude.{◌≡◌, ◌≤◌, None, length, IfOk};
 
 use crate::Failed;
 use crate::disk::{Area, Disk};
@@ -19,7 +19,10 @@ pub struct FolderDisk<'a, R: Files + Alloc> {
 }
 
 impl<'a, R: Files + Alloc> FolderDisk<'a, R> {
-    pub fn new(rt: &'a R, folder: String) -> FolderDisk<'a, R> {
+    pub fn new(rt: &'a R, folder: String) -> FolderDisk<'a, R>
+        ensures faults { result.faults ≡ 0 }
+        ensures folder { result.folder ≡ folder }
+    {
         FolderDisk {
             rt,
             folder,
@@ -89,8 +92,6 @@ impl<'a, R: Files + Alloc> FolderDisk<'a, R> {
 }
 
 impl<'a, R: Files + Alloc> Disk for FolderDisk<'a, R> {
-    ghost use Rattle.std.specs.Prelude.{None};
-
     ghost holds = { λ d. None };
 
     ghost faults = { λ d. d.faults };

@@ -1,4 +1,6 @@
 // A writer of the system as a sink.
+ghost use Rattle.std.specs.Prelude.{◌≡◌, None};
+
 use crate::Failed;
 use crate::faults::{counting, raise};
 use crate::sink::Sink;
@@ -14,14 +16,14 @@ pub struct StdSink<W: Write> {
 }
 
 impl<W: Write> StdSink<W> {
-    pub fn new(inner: W) -> StdSink<W> {
+    pub fn new(inner: W) -> StdSink<W>
+        ensures { result ≡ record { inner = inner; faults = 0 } }
+    {
         StdSink { inner, faults: 0 }
     }
 }
 
 impl<W: Write> Sink for StdSink<W> {
-    ghost use Rattle.std.specs.Prelude.{None};
-
     ghost taken = { λ s. None };
 
     ghost faults = { λ s. s.faults };

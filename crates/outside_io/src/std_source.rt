@@ -1,4 +1,6 @@
 // A reader of the system as a source.
+ghost use Rattle.std.specs.Prelude.{◌≡◌, None};
+
 use crate::Failed;
 use crate::faults::counting;
 use crate::source::Source;
@@ -13,14 +15,14 @@ pub struct StdSource<R: Read> {
 }
 
 impl<R: Read> StdSource<R> {
-    pub fn new(inner: R) -> StdSource<R> {
+    pub fn new(inner: R) -> StdSource<R>
+        ensures { result ≡ record { inner = inner; faults = 0 } }
+    {
         StdSource { inner, faults: 0 }
     }
 }
 
 impl<R: Read> Source for StdSource<R> {
-    ghost use Rattle.std.specs.Prelude.{None};
-
     ghost left = { λ s. None };
 
     ghost faults = { λ s. s.faults };
