@@ -19,6 +19,7 @@ pub struct FolderDisk<'a, R: Files + Alloc> {
 }
 
 impl<'a, R: Files + Alloc> FolderDisk<'a, R> {
+    /// A disk in the folder, which has to be there: `.` is the current one. The runtime opens its files.
     pub fn new(rt: &'a R, folder: String) -> FolderDisk<'a, R>
         ensures faults { result.faults ≡ 0 }
         ensures folder { result.folder ≡ folder }

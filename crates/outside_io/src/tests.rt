@@ -67,7 +67,11 @@ fn keeps_two_areas(rt: HostRuntime) -> Result<(), Fail> {
     );
     assert_eq!(rt; disk.area(Area::B), [7].as_slice());
     assert_eq!(rt; disk.sync(Area::B), Ok(()));
-    assert_eq!(rt; disk.sync(Area::B), Err(Failed), "the eighth call");
+    assert_eq!(rt;
+        disk.sync(Area::B),
+        Err(Failed),
+        "the call after the seventh"
+    );
     assert_eq!(rt; disk.faults(), 3);
     Ok(())
 }
