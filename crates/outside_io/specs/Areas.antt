@@ -3,10 +3,12 @@ use Rattle.std.specs.Prelude.{ℕ, ◌+◌, List, ◌++◌, length, take, drop}
 use Rattle.outside_io.specs.declared.disk.Area.{Area}
 use Rattle.outside_io.specs.declared.disk.Area.TheVariants.{A, B}
 
+-- the bytes of both areas
 pub record Areas : Type 0 where
   pub a : List ℕ
   pub b : List ℕ
 
+-- the bytes of one area
 abbrev pub bytes_of : Areas → Area → List ℕ
 bytes_of areas A = areas.a
 bytes_of areas B = areas.b

@@ -2,7 +2,6 @@ ghost use Rattle.outside_io.specs.Moved.{HasRead, Moves, Rose};
 ghost use Rattle.std.specs.Prelude.{◌≡◌, ℕ, ◌<◌, ◌≤◌, List, [], Option, Some, length, take, drop, IfOk, IfSome, OnOk, OnErr};
 
 use crate::Failed;
-use amr_num::OutOfMemory;
 use std::alloc::Global;
 
 /// Where bytes come from.
