@@ -16,4 +16,5 @@ pub mod Regrid
 pub mod Advect
 pub mod Induct
 pub mod Start
+pub mod RangeWalk
 pub mod Laws
