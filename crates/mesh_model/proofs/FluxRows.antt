@@ -11,7 +11,7 @@ use Rattle.amr_num.specs.Numbers.{part, carry}
 use Rattle.mesh_model.specs.VariableNames.{no_names}
 use Rattle.mesh_model.specs.Coordinates.{wrapped}
 use Rattle.mesh_model.specs.Plain.{Grid, Mesh, is_leaf_block, is_split_block, is_leaf_face, is_split_face, is_leaf_edge, is_split_edge, is_canonical_at}
-use Rattle.mesh_model.specs.Views.{sum_down, view_at, face_down, face_up, face_view, edge_view, edge_down, edge_up}
+use Rattle.mesh_model.specs.Views.{sum_down, view_at, face_down, side_view, face_view_at, face_view, edge_view, edge_down, rim_view, edge_view_at}
 use Rattle.mesh_model.specs.Totals.{box_sum, leaf_sum, total}
 use Rattle.mesh_model.specs.Advect.{Speeds, advect, on_outer_side}
 use Rattle.mesh_model.specs.Induct.{leaf_emf, inducted, curled}
@@ -70,12 +70,12 @@ row23_b : FaceAt → ℤ
 row23_b = curled around row23_e
 
 row23 : ◌≡◌ {A = List ℤ} (row23_b (face X 1 0 0) ∷ row23_b (face X 1 1 0) ∷ row23_b (face X 2 0 0) ∷ row23_b (face Y 0 1 0) ∷ row23_b (face Y 1 1 0) ∷ row23_b (face Y 1 1 1) ∷ []) (pos 10 ∷ negsuc 9 ∷ pos 0 ∷ negsuc 9 ∷ pos 10 ∷ pos 0 ∷ [])
-unfolding row23_b row23_e around one_block is_canonical_at face is_z part is_leaf_block is_split_block is_leaf_face is_split_face is_leaf_edge is_split_edge wrapped edge_view edge_down edge_up
+unfolding row23_b row23_e around one_block is_canonical_at face is_z part is_leaf_block is_split_block is_leaf_face is_split_face is_leaf_edge is_split_edge wrapped edge_down rim_view edge_view_at
 row23 = refl
 
 rowR81_b : FaceAt → ℤ
 rowR81_b = inducted around row23_b (record { x = pos 524288; y = pos 0; z = pos 0 })
 
 rowR81 : ◌≡◌ {A = List ℤ} (rowR81_b (face X 0 0 0) ∷ rowR81_b (face X 1 0 0) ∷ rowR81_b (face X 2 0 0) ∷ rowR81_b (face X 3 0 0) ∷ rowR81_b (face X 1 1 0) ∷ rowR81_b (face X 2 1 0) ∷ rowR81_b (face X 1 0 1) ∷ rowR81_b (face Y 0 1 0) ∷ rowR81_b (face Y 1 1 0) ∷ rowR81_b (face Y 2 1 0) ∷ rowR81_b (face Y 0 0 0) ∷ rowR81_b (face Z 0 0 0) ∷ []) (pos 0 ∷ pos 5 ∷ pos 5 ∷ pos 0 ∷ negsuc 4 ∷ negsuc 4 ∷ pos 0 ∷ negsuc 4 ∷ pos 0 ∷ pos 5 ∷ pos 0 ∷ pos 0 ∷ [])
-unfolding rowR81_b row23_b row23_e around one_block is_canonical_at face is_z part carry leaf_emf is_leaf_block is_split_block is_leaf_face is_split_face is_leaf_edge is_split_edge wrapped face_view face_down face_up edge_view edge_down edge_up
+unfolding rowR81_b row23_b row23_e around one_block is_canonical_at face is_z part carry leaf_emf is_leaf_block is_split_block is_leaf_face is_split_face is_leaf_edge is_split_edge wrapped face_down side_view face_view_at edge_down rim_view edge_view_at
 rowR81 = refl

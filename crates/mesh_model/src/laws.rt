@@ -32,6 +32,7 @@ pub fn edge_views_add_up()
 /// Where a cell balances, the inner rule balances each of its octants.
 pub fn inner_rule_balances()
     ensures octants { laws.OctantsBalance }
+    ensures sub_cells { laws.SubCellsBalance }
     ensures cells { laws.AllCellsBalance }
 {}
 
