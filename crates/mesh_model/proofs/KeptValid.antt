@@ -1,5 +1,5 @@
 -- Commands keep a mesh valid.
-use Rattle.std.proofs.Common.{◌≡◌, ℕ, ◌+◌, ◌*◌, ◌<◌, ◌≤◌, ◌^◌, ◌==◌, true, false, ℤ, pos, arith, inl, inr, List, [], ◌∷◌, ◌++◌, length, length-append, zero, suc}
+use Rattle.std.proofs.Common.{ℕ, ◌*◌, ◌≤◌, ◌^◌, ◌==◌, ℤ, arith, inl, inr, List, [], ◌∷◌, length, length-append, zero, suc}
 use Rattle.std.proofs.lemmas.Nat.{mul-le}
 use Rattle.std.proofs.lemmas.Bool.{cases_Bool}
 use Rattle.amr_num.specs.declared.BlockAt.{BlockAt}

@@ -1,5 +1,5 @@
 -- The nodes of a tree are its leaves and their ancestors, by rising key.
-use Rattle.std.proofs.Common.{◌≡◌, ℕ, zero, suc, ◌+◌, ◌-◌, ◌*◌, ◌/◌, ◌%◌, ◌^◌, ◌<◌, ◌≤◌, ◌==◌, ◌&&◌, true, false, refl, sym, ap, ap₂, ◌∙◌, arith, inl, inr, subst, List, [], ◌∷◌, ◌++◌, eqb-true, eq-eqb}
+use Rattle.std.proofs.Common.{◌≡◌, ℕ, zero, suc, ◌+◌, ◌-◌, ◌*◌, ◌/◌, ◌%◌, ◌^◌, ◌<◌, ◌≤◌, ◌==◌, ◌&&◌, true, false, refl, sym, ap, ◌∙◌, arith, inl, inr, subst, [], ◌∷◌, ◌++◌, eqb-true, eq-eqb}
 use Rattle.std.proofs.Math.Nat.{mul-div_cancel, mul_assoc}
 use Rattle.std.proofs.Math.Pow.{pow-add}
 use Rattle.std.proofs.lemmas.Nat.{pow_pos}
@@ -12,7 +12,7 @@ use Rattle.mesh_model.specs.Valid.{LiesIn, InDomain, Valid, ValidMesh}
 use Rattle.mesh_model.proofs.Tests.{in_left, in_right, in_either, in_flat, from_flat, all_three, and_both}
 use Rattle.mesh_model.proofs.Tiling.{nested, lies_trans, lies_refl, child_in, finest, finest_in, domain_finest, domain_up}
 use Rattle.mesh_model.proofs.Regrown.{is_parent}
-use Rattle.mesh_model.proofs.Sorting.{sorted_append, sorted_flat, morton_child, span, span_pos, past_end}
+use Rattle.mesh_model.proofs.Sorting.{sorted_append, sorted_flat, morton_child, span_pos, past_end}
 
 begun_first : (l : ℕ) (c : BlockAt) → is_first_child c ≡ true → begun_at (suc l) c ≡ begun_at l (parent_block c) ++ c ∷ []
 unfolding begun_at

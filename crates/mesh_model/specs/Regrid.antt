@@ -1,5 +1,5 @@
 -- What regrid makes of a mesh.
-use Rattle.std.specs.Prelude.{◌%◌, Bool, true, false, ◌&&◌, ◌==◌, nat_lt, if◌then◌else◌, List, [], ◌∷◌, flat_map}
+use Rattle.std.specs.Prelude.{Bool, true, false, ◌&&◌, nat_lt, if◌then◌else◌, List, [], ◌∷◌, flat_map}
 use Rattle.amr_num.specs.declared.BlockAt.{BlockAt}
 use Rattle.mesh_model.specs.Plain.{Grid, Mesh, on_cells, on_faces, on_edges}
 use Rattle.mesh_model.specs.Views.{cell_view, face_view, edge_view}

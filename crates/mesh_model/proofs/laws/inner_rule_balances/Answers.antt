@@ -1,4 +1,3 @@
-use Rattle.mesh_model.specs.declared.Shape.{Shape}
 use Rattle.amr_num.specs.declared.Axis.TheVariants.{X, Y, Z}
 use Rattle.mesh_model.proofs.CellKinds.{wide_of}
 use Rattle.mesh_model.proofs.ValidGrid.{tree, deep_face}

@@ -1,7 +1,5 @@
-use Rattle.std.proofs.Common.{ℕ, ◌*◌, ◌^◌, ◌<◌, ◌≤◌, arith, length}
-use Rattle.std.proofs.lemmas.Nat.{mul-le}
-use Rattle.mesh_model.proofs.ShapeLimits.{cells_least, cells_most}
-use Rattle.mesh_model.specs.Laws.{leaf_cells}
+use Rattle.std.proofs.Common.{ℕ, ◌<◌, ◌≤◌, arith}
+use Rattle.mesh_model.proofs.ShapeLimits.{cells_least}
 use Rattle.mesh_model.proofs.KeptValid.{leaf_cells_few}
 use Rattle.mesh_model.proofs.Bounds.{split_view_within}
 use Rattle.mesh_model.proofs.SideBounds.{split_face_within}
