@@ -72,7 +72,8 @@ first_of_all at (v ∷ vs) = option_or (at v) (first_of_all at vs)
 abbrev pub variables : Mesh → List ℕ
 variables m = range_with_len 0 (length m.names.cells)
 
--- the first number out of range: of the cell variables in declared order, then of what flowed out of them, then of the face and the edge variable; of faces and edges only leaf ones count
+-- the first number out of range: of the cell variables in declared order, then of what flowed out of them, then of the face and the edge
+-- variable; of faces and edges only leaf ones count
 unfoldable pub first_excess : Mesh → Option Excess
 first_excess m =
     option_or (first_of_all (λ v. option_map (CellAbove v) (find (λ c. is_above (2 ^ 40) (m.cells v c)) (cells_walked m.grid))) (variables m))

@@ -20,9 +20,12 @@ in_place refine merge b = elim (refine b) [
 abbrev pub regrown : Grid → (BlockAt → Bool) → (BlockAt → Bool) → Grid
 regrown g refine merge = record { shape = g.shape; leaves = flat_map (in_place refine merge) g.leaves }
 
+-- the grid after regrid, by the closure of the marks
 abbrev pub new_grid : Mesh → Grid
 new_grid m = regrown m.grid (is_refined m) (is_merged m)
 
+-- the mesh after regrid: each new leaf cell, leaf face and leaf edge holds the old mesh's view of it, what flowed out stays, and marks
+-- are gone
 abbrev pub regrid : Mesh → Mesh
 regrid m = record {
   grid = new_grid m;
