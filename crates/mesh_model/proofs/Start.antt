@@ -2,8 +2,12 @@
 use Rattle.std.proofs.Common.{◌≡◌, ℕ, ◌-◌, ◌*◌, ◌/◌, ◌^◌, ◌<◌, refl, ap, arith}
 use Rattle.amr_num.specs.declared.BlockAt.{BlockAt}
 use Rattle.mesh_model.specs.Plain.{Grid}
-use Rattle.mesh_model.specs.Valid.{LiesIn, Tiles, Valid, AllRoots}
+use Rattle.mesh_model.specs.VariableNames.{VariableNames}
+use Rattle.mesh_model.specs.declared.Shape.{Shape}
+use Rattle.mesh_model.specs.Start.{start_grid, start_mesh}
+use Rattle.mesh_model.specs.Valid.{LiesIn, Tiles, Valid, ValidMesh, AllRoots}
 use Rattle.mesh_model.specs.Limits.{IsShape}
+use Rattle.mesh_model.proofs.Roots.{start_sorted, start_few, start_root, start_every}
 use Rattle.mesh_model.proofs.Tiling.{nested, same_level, domain_up}
 
 zero_on : (l x : ℕ) → l ≡ 0 → x < 1 * 2 ^ l → x ≡ 0
@@ -36,3 +40,14 @@ module _ (g : Grid) (shape : IsShape g.shape) (roots : AllRoots g) where
     tiles = start_tiles;
     rule = record { near = λ leaf other i j t. let one = (roots.root leaf i).1 in omega arith };
   }
+
+-- the start mesh of a shape is valid
+pub start_mesh_valid : (s : Shape) (names : VariableNames) → IsShape s → ValidMesh (start_mesh s names)
+start_mesh_valid s names shape = record {
+  grid = start_valid (start_grid s) shape (record { root = start_root s; every = start_every s shape });
+  order = start_sorted s;
+  nodes = start_few s;
+  numbers = record { cells = λ v c h. refl; faces = λ f h. refl; edges = λ e h. refl };
+  range = record { cells = λ v c. omega arith; outs = λ v. omega arith; faces = λ f. omega arith; edges = λ e. omega arith };
+  marks = record { refine = λ b h. cc; derefine = λ b h. cc };
+}

@@ -1,4 +1,8 @@
--- What advect makes of a cell variable.
+-- What advect makes of a cell variable, and what flows out.
+--
+-- Speeds count in 2^-20 of the coarsest cell a step. The flux through a leaf face is what its speed carries of the donor's view. A leaf
+-- cell
+-- loses high minus low of its fluxes, where a face with a split side has the sum of its subfaces' fluxes.
 use Rattle.std.specs.Prelude.{ℕ, zero, suc, ◌+◌, ◌-◌, ◌*◌, ◌^◌, Bool, true, false, not, ◌&&◌, ◌||◌, ◌==◌, nat_lt, if◌then◌else◌, ℤ, pos, negsuc, ◌+ℤ◌, ◌-ℤ◌, ◌≤◌, unsigned_abs}
 use Rattle.amr_num.specs.declared.Axis.{Axis}
 use Rattle.amr_num.specs.declared.SideKind.{SideKind}
@@ -13,6 +17,8 @@ use Rattle.mesh_model.specs.Plain.{Grid, Mesh, on_cells}
 use Rattle.mesh_model.specs.Views.{cell_view, face_down}
 use Rattle.mesh_model.specs.Circulation.{net_flux}
 use Rattle.mesh_model.specs.Totals.{leaf_sum}
+
+-- ---- fluxes
 
 abbrev pub is_closed_kind : SideKind → Bool
 is_closed_kind Periodic = false
@@ -29,7 +35,7 @@ is_closed_at s a l p =
 abbrev pub on_closed_side : Shape → FaceAt → Bool
 on_closed_side s f = is_closed_at s f.axis f.level (on f.axis (face_numbers f))
 
--- a cell coordinate below or above a position, wrapped or clamped
+-- the cell coordinate below a position on an axis of e cells, and the one above it, wrapped or clamped
 abbrev pub below_or : Bool → ℕ → ℕ → ℕ
 below_or periodic e zero = if periodic then e - 1 else 0
 below_or periodic e (suc p) = p
@@ -37,15 +43,16 @@ below_or periodic e (suc p) = p
 abbrev pub above_or : Bool → ℕ → ℕ → ℕ
 above_or periodic e p = if nat_lt p e then p else (if periodic then 0 else e - 1)
 
--- with a position on the axis a in c: the cell at it from which the speed n blows
+-- with a position on the axis a in c: the cell beside it on the low side for a positive speed, on the high side for a negative one
 abbrev pub blown_from : Shape → Axis → ℤ → CellAt → CellAt
 blown_from s a (pos n) c = with a (below_or (is_periodic s a) (extent s a c.level) (on a c)) c
 blown_from s a (negsuc n) c = with a (above_or (is_periodic s a) (extent s a c.level) (on a c)) c
 
--- the cell from which the flux through a face comes
+-- the donor: the cell from which the flux through a face comes
 abbrev pub donor : Shape → ℤ → FaceAt → CellAt
 donor s n f = blown_from s f.axis n (face_numbers f)
 
+-- a speed for each axis
 pub record Speeds : Type 0 where
   pub x : ℤ
   pub y : ℤ
@@ -56,22 +63,25 @@ speed n X = n.x
 speed n Y = n.y
 speed n Z = n.z
 
--- the speeds together move at most one finest cell
+-- the Courant limit: the speeds together move at most one finest cell a step
 abbrev pub Courant : Shape → Speeds → Type 0
 Courant s n = (unsigned_abs n.x + unsigned_abs n.y + unsigned_abs n.z) * 2 ^ s.max ≤ 2 ^ 20
 
--- the flux through a leaf face
+-- the flux through a leaf face: what is carried of the donor's view, and 0 on a closed side
 abbrev pub leaf_flux : Grid → (CellAt → ℤ) → Speeds → FaceAt → ℤ
 leaf_flux g content n f =
     if on_closed_side g.shape f then pos 0
     else carry (speed n f.axis) f.level (cell_view g content (donor g.shape (speed n f.axis) f))
 
--- the flux through any face of a leaf cell: where a side is split, of its subfaces
+-- the flux through a face of a leaf cell: where it has a split side, the sum of its subfaces'
 abbrev pub flux : Grid → (CellAt → ℤ) → Speeds → FaceAt → ℤ
 flux g content n f = face_down g (leaf_flux g content n) (10 - f.level) f
 
+-- the contents after: each leaf cell loses its net outflow
 abbrev pub advected : Grid → (CellAt → ℤ) → Speeds → CellAt → ℤ
 advected g content n c = on_cells g (λ d. content d -ℤ net_flux g (flux g content n) d) c
+
+-- ---- what flows out
 
 -- the face lies on an outer side, which is a side of an axis that is not periodic
 unfoldable pub on_outer_side : Shape → FaceAt → Bool
@@ -85,6 +95,7 @@ on_outer s at f = if on_outer_side s f then at f else pos 0
 abbrev pub outflow : Grid → (CellAt → ℤ) → Speeds → ℤ
 outflow g content n = leaf_sum g (net_flux g (on_outer g.shape (flux g content n)))
 
+-- a mesh after the advect of a variable
 abbrev pub advect : Mesh → ℕ → Speeds → Mesh
 advect m var n = record {
   grid = m.grid;

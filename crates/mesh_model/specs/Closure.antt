@@ -14,10 +14,11 @@ refined m (suc d) b = m.refine b || list_any (λ leaf. elim ((leaf.level == suc 
   | false ↦ false
 ]) m.grid.leaves
 
+-- the refined set: the leaves to which a chain of leaves leads from a marked one, each touching the one before and one level coarser
 abbrev pub is_refined : Mesh → BlockAt → Bool
 is_refined m b = is_leaf_block m.grid b && refined m (10 - b.level) b
 
--- a leaf that its parent may take back
+-- a leaf above the coarsest level that is marked derefine and not refined
 unfoldable pub is_ready : Mesh → BlockAt → Bool
 is_ready m c = is_leaf_block m.grid c && m.derefine c && not (is_refined m c) && nat_lt m.grid.shape.min c.level
 
@@ -25,7 +26,8 @@ is_ready m c = is_leaf_block m.grid c && m.derefine c && not (is_refined m c) &&
 unfoldable pub is_blocked : Mesh → BlockAt → Bool
 is_blocked m p = list_any (λ leaf. (leaf.level == suc p.level) && touches m.grid.shape leaf p && is_refined m leaf) m.grid.leaves
 
--- the children of p are merged; d counts the levels above them
+-- a parent is merged: its eight children are ready, it touches no refined leaf of their level, and each leaf one level finer that it
+-- touches has a merged parent; d counts the levels above it
 unfoldable pub merged : Mesh → ℕ → BlockAt → Bool
 merged m zero p = false
 merged m (suc d) p =
@@ -36,5 +38,6 @@ merged m (suc d) p =
       | false ↦ true
     ]) m.grid.leaves
 
+-- the merged set
 abbrev pub is_merged : Mesh → BlockAt → Bool
 is_merged m p = merged m (10 - p.level) p

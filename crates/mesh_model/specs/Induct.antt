@@ -1,4 +1,7 @@
 -- What induct, curl and uniform make of the face variable.
+--
+-- Each of them changes leaf faces by circulations of edge numbers or sets them to one flux by area, so that no leaf cell's net flux
+-- changes.
 use Rattle.std.specs.Prelude.{◌-◌, ◌^◌, Bool, ◌||◌, if◌then◌else◌, ℤ, pos, ◌-ℤ◌, ◌*ℤ◌}
 use Rattle.amr_num.specs.declared.FaceAt.{FaceAt}
 use Rattle.amr_num.specs.declared.EdgeAt.{EdgeAt}
@@ -14,7 +17,8 @@ use Rattle.mesh_model.specs.Advect.{Speeds, speed, is_closed_at, blown_from}
 abbrev pub edge_on_closed_side : Shape → EdgeAt → Bool
 edge_on_closed_side s e = is_closed_at s (next e.axis) e.level (on (next e.axis) (edge_numbers e)) || is_closed_at s (next (next e.axis)) e.level (on (next (next e.axis)) (edge_numbers e))
 
--- the number E of a leaf edge, from the upstream face views
+-- the number of a leaf edge along a, with b and c the next axes: what the speed on c carries of the face normal to b upstream on c, less
+-- what the speed on b carries of the face normal to c upstream on b; 0 on a closed side
 unfoldable pub leaf_emf : Grid → (FaceAt → ℤ) → Speeds → EdgeAt → ℤ
 leaf_emf g faces n e =
     let b = next e.axis in
@@ -24,7 +28,7 @@ leaf_emf g faces n e =
     if edge_on_closed_side g.shape e then pos 0
     else carry (speed n c) e.level face_b -ℤ carry (speed n b) e.level face_c
 
--- its views
+-- the views of these edge numbers
 abbrev pub emf : Grid → (FaceAt → ℤ) → Speeds → EdgeAt → ℤ
 emf g faces n = edge_view g (leaf_emf g faces n)
 
@@ -32,13 +36,15 @@ emf g faces n = edge_view g (leaf_emf g faces n)
 abbrev pub less_circulation : Grid → (FaceAt → ℤ) → (EdgeAt → ℤ) → FaceAt → ℤ
 less_circulation g faces views = on_faces g (λ f. faces f -ℤ circulation g views f)
 
+-- the face variable after induct
 abbrev pub inducted : Grid → (FaceAt → ℤ) → Speeds → FaceAt → ℤ
 inducted g faces n = less_circulation g faces (emf g faces n)
 
+-- the face variable after curl: on each leaf face the circulation of the edge variable's views
 abbrev pub curled : Grid → (EdgeAt → ℤ) → FaceAt → ℤ
 curled g edges = on_faces g (circulation g (edge_view g edges))
 
--- with b as numbers by axis
+-- the face variable after uniform, with a number for each axis: on each leaf face that of its normal, times its area in finest faces
 abbrev pub uniform_faces : Grid → Speeds → FaceAt → ℤ
 uniform_faces g b = on_faces g (λ f. speed b f.axis *ℤ pos (4 ^ (g.shape.max - f.level)))
 

@@ -6,6 +6,7 @@ pub mod Limits
 pub mod Plain
 pub mod InnerRule
 pub mod Views
+pub mod GuardValues
 pub mod Circulation
 pub mod Touch
 pub mod Order

@@ -15,18 +15,22 @@ pub record Grid : Type 0 where
   pub shape : Shape
   pub leaves : List BlockAt
 
+-- the plain mesh
 pub record Mesh : Type 0 where
   pub grid : Grid
   -- the names of its variables
   pub names : VariableNames
-  -- the content of a variable in a leaf cell, and what flowed out
+  -- the content of a cell variable in a leaf cell, and what flowed out of it
   pub cells : ℕ → CellAt → ℤ
   pub outs : ℕ → ℤ
+  -- the number of the face variable on a leaf face, and of the edge variable on a leaf edge
   pub faces : FaceAt → ℤ
   pub edges : EdgeAt → ℤ
+  -- the leaves that are marked
   pub refine : BlockAt → Bool
   pub derefine : BlockAt → Bool
 
+-- the block of n cells along each axis in which a cell lies
 abbrev pub block_of : ℕ → CellAt → BlockAt
 block_of n c = record { level = c.level; x = c.x / n; y = c.y / n; z = c.z / n }
 
@@ -41,6 +45,7 @@ is_leaf_block g b = list_any (λ leaf. (leaf.level == b.level) && lies_in leaf b
 unfoldable pub is_split_block : Grid → BlockAt → Bool
 is_split_block g b = list_any (λ leaf. nat_lt b.level leaf.level && lies_in leaf b) g.leaves
 
+-- a cell is a leaf cell, or split, as its block is a leaf or split; otherwise it lies inside a coarser leaf or outside the domain
 abbrev pub is_leaf : Grid → CellAt → Bool
 is_leaf g c = is_leaf_block g (block_of g.shape.n c)
 
@@ -52,14 +57,14 @@ abbrev pub holds : (CellAt → Bool) → Option CellAt → Bool
 holds p None = false
 holds p (Some c) = p c
 
--- a cell beside the face is split; it is a leaf face
+-- a face has a split side; it is a leaf face: a cell beside it is a leaf cell and none is split
 unfoldable pub is_split_face : Grid → FaceAt → Bool
 is_split_face g f = holds (is_split g) (low_cell g.shape f) || holds (is_split g) (high_cell g.shape f)
 
 unfoldable pub is_leaf_face : Grid → FaceAt → Bool
 is_leaf_face g f = (holds (is_leaf g) (low_cell g.shape f) || holds (is_leaf g) (high_cell g.shape f)) && not (is_split_face g f)
 
--- the same of an edge and the cells round it
+-- the same of an edge and the up to four cells round it
 unfoldable pub is_split_edge : Grid → EdgeAt → Bool
 is_split_edge g e = list_any (holds (is_split g)) (round_edge g.shape e)
 
@@ -70,6 +75,7 @@ is_leaf_edge g e = list_any (holds (is_leaf g)) (round_edge g.shape e) && not (i
 unfoldable pub is_canonical_at : Shape → Axis → ℕ → ℕ → Bool
 is_canonical_at s a l p = not (is_periodic s a) || nat_lt p (extent s a l)
 
+-- the canonical name of a face and of an edge
 abbrev pub is_canonical : Shape → FaceAt → Bool
 is_canonical s f = is_canonical_at s f.axis f.level (on f.axis (face_numbers f))
 

@@ -1,5 +1,5 @@
 -- What regrid makes of a mesh.
-use Rattle.std.specs.Prelude.{◌%◌, Bool, true, false, ◌&&◌, ◌==◌, nat_lt, if◌then◌else◌, List, [], ◌∷◌, flat_map}
+use Rattle.std.specs.Prelude.{Bool, true, false, ◌&&◌, nat_lt, if◌then◌else◌, List, [], ◌∷◌, flat_map}
 use Rattle.amr_num.specs.declared.BlockAt.{BlockAt}
 use Rattle.mesh_model.specs.Plain.{Grid, Mesh, on_cells, on_faces, on_edges}
 use Rattle.mesh_model.specs.Views.{cell_view, face_view, edge_view}
@@ -20,9 +20,12 @@ in_place refine merge b = elim (refine b) [
 abbrev pub regrown : Grid → (BlockAt → Bool) → (BlockAt → Bool) → Grid
 regrown g refine merge = record { shape = g.shape; leaves = flat_map (in_place refine merge) g.leaves }
 
+-- the grid after regrid, by the closure of the marks
 abbrev pub new_grid : Mesh → Grid
 new_grid m = regrown m.grid (is_refined m) (is_merged m)
 
+-- the mesh after regrid: each new leaf cell, leaf face and leaf edge holds the old mesh's view of it, what flowed out stays, and marks
+-- are gone
 abbrev pub regrid : Mesh → Mesh
 regrid m = record {
   grid = new_grid m;

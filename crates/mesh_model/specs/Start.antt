@@ -18,6 +18,7 @@ root_at m = record { level = 0; x = every_third m; y = every_third (m / 2); z = 
 abbrev pub is_root : Shape → BlockAt → Bool
 is_root s b = nat_lt b.x s.rx && nat_lt b.y s.ry && nat_lt b.z s.rz
 
+-- the root, where it lies in the domain
 abbrev pub root_there : Shape → BlockAt → List BlockAt
 root_there s b = if is_root s b then b ∷ [] else []
 
@@ -25,6 +26,7 @@ root_there s b = if is_root s b then b ∷ [] else []
 unfoldable pub start_leaves : Shape → List BlockAt
 start_leaves s = flat_map (λ m. root_there s (root_at m)) (range_with_len 0 512)
 
+-- the grid and the mesh with which a run begins
 abbrev pub start_grid : Shape → Grid
 start_grid s = record { shape = s; leaves = start_leaves s }
 

@@ -1,0 +1,85 @@
+-- Commands keep a mesh valid.
+use Rattle.std.proofs.Common.{ℕ, ◌*◌, ◌≤◌, ◌^◌, ◌==◌, ℤ, arith, inl, inr, List, [], ◌∷◌, length, length-append, zero, suc}
+use Rattle.std.proofs.lemmas.Nat.{mul-le}
+use Rattle.std.proofs.lemmas.Bool.{cases_Bool}
+use Rattle.amr_num.specs.declared.BlockAt.{BlockAt}
+use Rattle.amr_num.specs.declared.FaceAt.{FaceAt}
+use Rattle.mesh_model.specs.Blocks.{is_first_child, parent_block}
+use Rattle.mesh_model.specs.Limits.{most_nodes}
+use Rattle.mesh_model.specs.Plain.{Mesh, on_faces}
+use Rattle.mesh_model.specs.Order.{begun_at, nodes}
+use Rattle.mesh_model.specs.Valid.{ValidMesh, FewNodes, InRange}
+use Rattle.mesh_model.specs.Regrid.{regrid, new_grid}
+use Rattle.mesh_model.specs.Advect.{Speeds, advect}
+use Rattle.mesh_model.specs.Induct.{with_faces}
+use Rattle.mesh_model.specs.Laws.{leaf_cells}
+use Rattle.mesh_model.proofs.ShapeLimits.{cells_most}
+use Rattle.mesh_model.proofs.FieldsKept.{regrid_on_leaves, advect_on_leaves, faces_on_leaves}
+use Rattle.mesh_model.proofs.Ruled.{new_grid_valid}
+use Rattle.mesh_model.proofs.Sorting.{new_grid_sorted}
+
+-- regrid, where nodes and numbers keep the limits
+pub regrid_valid : (m : Mesh) → ValidMesh m → FewNodes (new_grid m) → InRange (regrid m) → ValidMesh (regrid m)
+regrid_valid m valid few range = record {
+  grid = new_grid_valid m valid;
+  order = new_grid_sorted m valid;
+  nodes = few;
+  numbers = regrid_on_leaves m;
+  range = range;
+  marks = record { refine = λ b h. cc; derefine = λ b h. cc };
+}
+
+pub advect_valid : (m : Mesh) (var : ℕ) (n : Speeds) → ValidMesh m → InRange (advect m var n) → ValidMesh (advect m var n)
+advect_valid m var n valid range = record {
+  grid = valid.grid;
+  order = valid.order;
+  nodes = valid.nodes;
+  numbers = advect_on_leaves m var n valid.numbers;
+  range = range;
+  marks = record { refine = valid.marks.refine; derefine = valid.marks.derefine };
+}
+
+pub faces_valid : (m : Mesh) (k : FaceAt → ℤ) → ValidMesh m → InRange (with_faces m (on_faces m.grid k)) → ValidMesh (with_faces m (on_faces m.grid k))
+faces_valid m k valid range = record {
+  grid = valid.grid;
+  order = valid.order;
+  nodes = valid.nodes;
+  numbers = faces_on_leaves m k valid.numbers;
+  range = range;
+  marks = record { refine = valid.marks.refine; derefine = valid.marks.derefine };
+}
+
+-- ---- there are at least as many nodes as leaves
+
+begun_some : (l : ℕ) (b : BlockAt) → 1 ≤ length (begun_at l b)
+unfolding begun_at
+begun_some zero b = omega arith
+begun_some (suc l) b = elim (cases_Bool (is_first_child b)) [
+  | inl t ↦ rw (t, begun_at) (let sum = length-append (begun_at l (parent_block b)) (b ∷ []) in omega arith)
+  | inr f ↦ rw (f, begun_at) (omega arith)
+]
+
+pub leaves_few : (bs : List BlockAt) → length bs ≤ length (nodes bs)
+unfolding nodes
+leaves_few [] = omega arith
+leaves_few (b ∷ bs) =
+    let rest = leaves_few bs in
+    let own = begun_some b.level b in
+    let sum = length-append (begun_at b.level b) (nodes bs) in
+    omega arith
+
+few_cells : (l n : ℕ) → l ≤ 8192 → n ≤ 8 → l * (n * n * n) ≤ 4194304
+few_cells l n h k = mul-le l (n * n * n) 8192 512 h (mul-le (n * n) n 64 8 (mul-le n n 8 8 k k) k)
+
+pub leaf_cells_few : (m : Mesh) → ValidMesh m → 2 ^ 40 * leaf_cells m.grid ≤ 2 ^ 62
+leaf_cells_few m valid =
+    let leaves = leaves_few m.grid.leaves in
+    let few = valid.nodes in
+    let most = node_limit m in
+    mul-le (2 ^ 40) (leaf_cells m.grid) (2 ^ 40) (2 ^ 22) (omega arith) (few_cells (length m.grid.leaves) m.grid.shape.n (omega arith) (cells_most valid.grid.shape))
+  where
+    node_limit : (m : Mesh) → most_nodes m.grid.shape ≤ 8192
+    node_limit m = elim (cases_Bool (m.grid.shape.g == 4)) [
+      | inl t ↦ rw t (omega arith)
+      | inr f ↦ rw f (omega arith)
+    ]
