@@ -13,3 +13,5 @@ pub mod Fields
 pub mod Laws
 pub mod Order
 pub mod Commands
+pub mod Words
+pub mod Grammar
