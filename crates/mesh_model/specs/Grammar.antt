@@ -1,5 +1,5 @@
 -- The language of scripts: what a list of bytes says, or the first fault in it.
-use Rattle.std.specs.Prelude.{ℕ, ◌+◌, ◌-◌, ◌^◌, ◌≤◌, Bool, true, false, not, ◌&&◌, ◌||◌, ◌==◌, nat_eq, nat_lt, nat_le, if◌then◌else◌, List, [], ◌∷◌, ◌++◌, length, replicate, Option, Some, None, Result, Ok, Err, ℤ, pos, unsigned_abs, int_le, codes, bytes_eq, count_by, position, slice_index}
+use Rattle.std.specs.Prelude.{ℕ, ◌+◌, ◌-◌, ◌^◌, ◌≤◌, Bool, true, false, not, ◌&&◌, ◌||◌, ◌==◌, nat_lt, nat_le, if◌then◌else◌, List, [], ◌∷◌, ◌++◌, length, replicate, Option, Some, None, Result, Ok, Err, ℤ, pos, unsigned_abs, int_le, codes, bytes_eq, count_by, position, slice_index}
 use Rattle.std.specs.List.{list_any}
 use Rattle.amr_num.specs.declared.Axis.{Axis}
 use Rattle.amr_num.specs.declared.Axis.TheVariants.{X, Y, Z}
@@ -58,7 +58,7 @@ count low high w = do
 unfoldable pub one_of : List ℕ → List ℕ → Result ℕ Reason
 one_of numbers w = do
   z ← found NotNumber (number_of w)
-  check (int_le (pos 0) z && list_any (nat_eq (unsigned_abs z)) numbers) OutOfRange (unsigned_abs z)
+  check (int_le (pos 0) z && list_any (λ n. n == unsigned_abs z) numbers) OutOfRange (unsigned_abs z)
 
 -- a number that a leaf may hold
 abbrev pub leaf_number : List ℕ → Result ℤ Reason
