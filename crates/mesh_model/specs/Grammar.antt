@@ -1,5 +1,5 @@
 -- The language of scripts: what a list of bytes says, or the first fault in it.
-use Rattle.std.specs.Prelude.{ℕ, ◌+◌, ◌-◌, ◌^◌, ◌≤◌, Bool, true, false, not, ◌&&◌, ◌||◌, ◌==◌, nat_lt, nat_le, if◌then◌else◌, List, [], ◌∷◌, ◌++◌, length, replicate, Option, Some, None, Result, Ok, Err, ℤ, pos, unsigned_abs, int_le, codes, bytes_eq, count_by, position, slice_index}
+use Rattle.std.specs.Prelude.{ℕ, ◌+◌, ◌-◌, ◌^◌, ◌≤◌, Bool, true, false, not, ◌&&◌, ◌||◌, ◌==◌, nat_lt, nat_le, if◌then◌else◌, List, [], ◌∷◌, ◌++◌, length, replicate, Option, Some, None, Result, Ok, Err, ℤ, pos, unsigned_abs, int_le, codes, bytes_eq, count_by, is_some, position, slice_index}
 use Rattle.std.specs.List.{list_any}
 use Rattle.amr_num.specs.declared.Axis.{Axis}
 use Rattle.amr_num.specs.declared.Axis.TheVariants.{X, Y, Z}
@@ -54,11 +54,11 @@ count low high w = do
   z ← found NotNumber (number_of w)
   check (int_le (pos low) z && int_le z (pos high)) OutOfRange (unsigned_abs z)
 
--- one of these numbers
+-- one of these numbers, which are at most 8
 unfoldable pub one_of : List ℕ → List ℕ → Result ℕ Reason
 one_of numbers w = do
-  z ← found NotNumber (number_of w)
-  check (int_le (pos 0) z && list_any (λ n. n == unsigned_abs z) numbers) OutOfRange (unsigned_abs z)
+  n ← count 0 8 w
+  check (list_any (λ m. m == n) numbers) OutOfRange n
 
 -- a number that a leaf may hold
 abbrev pub leaf_number : List ℕ → Result ℤ Reason
@@ -76,9 +76,13 @@ point words i = do
 unfoldable pub fixed : List ℕ → List ℕ → Result (Unit {0}) Reason
 fixed text w = check (bytes_eq w text) UnknownWord tt
 
--- a cell variable, by its number
+-- the number of the cell variable with this name
+abbrev pub cell_named : VariableNames → List ℕ → Option ℕ
+cell_named names w = position (λ name. bytes_eq name w) names.cells
+
+-- a cell variable
 unfoldable pub cell_variable : VariableNames → List ℕ → Result ℕ Reason
-cell_variable names w = found UnknownVariable (position (λ name. bytes_eq name w) names.cells)
+cell_variable names w = found UnknownVariable (cell_named names w)
 
 -- any variable
 unfoldable pub variable : VariableNames → List ℕ → Result Group Reason
@@ -87,7 +91,7 @@ variable names w = do
   Ok (Cell v)
 
 abbrev pub is_taken : VariableNames → List ℕ → Bool
-is_taken names w = list_any (λ name. bytes_eq name w) names.cells
+is_taken names w = is_some (cell_named names w)
 
 -- a new name of a cell variable
 unfoldable pub new_cell_name : VariableNames → List ℕ → Result (List ℕ) Reason

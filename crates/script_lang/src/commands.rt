@@ -1,5 +1,5 @@
 // The words of each command, from left to right.
-ghost use Rattle.std.specs.Prelude.{◌≡◌, ℕ, ◌+◌, ◌*◌, ◌^◌, ◌<◌, ◌≤◌, ◌⊎◌, true, Ok, Err, length, position, bytes_eq, MatchResult};
+ghost use Rattle.std.specs.Prelude.{◌≡◌, ℕ, ◌+◌, ◌*◌, ◌^◌, ◌<◌, ◌≤◌, ◌⊎◌, true, Ok, Err, length, MatchResult};
 ghost use Rattle.mesh_model.specs.Grammar as grammar;
 ghost use Rattle.mesh_model.specs.Words.{is_name, word};
 ghost use Rattle.mesh_model.specs.Valid.{IsShape};
@@ -20,7 +20,7 @@ pub fn word<'a>(words: &[&'a [u8]], i: usize) -> &'a [u8]
 
 /// The number of the cell variable with this name.
 fn find_cell(names: &Names, name: &[u8]) -> Option<u32>
-    ensures { result ≡ position (λ known. bytes_eq known name.now) names.now.cells }
+    ensures { result ≡ grammar.cell_named names.now name.now }
 {
     for v in 0..names.cells() {
         if names.cell(v).as_bytes() == name {
@@ -30,12 +30,14 @@ fn find_cell(names: &Names, name: &[u8]) -> Option<u32>
     None
 }
 
+#[tactic(auto, unfolding(mesh_model::specs::Grammar::cell_variable))]
 fn cell_variable(names: &Names, word: &[u8]) -> Result<u32, Reason>
     ensures { result ≡ grammar.cell_variable names.now word.now }
 {
     find_cell(names, word).ok_or(Reason::UnknownVariable)
 }
 
+#[tactic(auto, unfolding(mesh_model::specs::Grammar::variable))]
 fn variable(names: &Names, word: &[u8]) -> Result<Group, Reason>
     ensures { result ≡ grammar.variable names.now word.now }
 {
@@ -55,6 +57,7 @@ fn text_of(name: &[u8]) -> &str
 }
 
 /// The word as the name of a further cell variable.
+#[tactic(auto, unfolding(mesh_model::specs::Grammar::new_cell_name))]
 fn new_cell_name<'a>(names: &Names, word: &'a [u8]) -> Result<&'a str, Reason>
     ensures { MatchResult result (λ s. grammar.new_cell_name names.now word.now ≡ Ok s.now) (λ e. grammar.new_cell_name names.now word.now ≡ Err e) }
 {
@@ -71,6 +74,7 @@ fn new_cell_name<'a>(names: &Names, word: &'a [u8]) -> Result<&'a str, Reason>
 }
 
 /// `domain RX RY RZ`
+#[tactic(auto, unfolding(mesh_model::specs::Grammar::domain))]
 pub fn domain(shape: Shape, words: &[&[u8]]) -> Result<Shape, Reason>
     requires { length words.now ≡ 4 }
     ensures { result ≡ grammar.domain shape (texts words.now) }
@@ -87,6 +91,7 @@ pub fn domain(shape: Shape, words: &[&[u8]]) -> Result<Shape, Reason>
 }
 
 /// `cells N G`
+#[tactic(auto, unfolding(mesh_model::specs::Grammar::cells))]
 pub fn cells(shape: Shape, words: &[&[u8]]) -> Result<Shape, Reason>
     requires { length words.now ≡ 3 }
     ensures { result ≡ grammar.cells shape (texts words.now) }
@@ -112,6 +117,7 @@ fn leaf_number(word: &[u8]) -> Result<i64, Reason>
 }
 
 /// Three coordinates, the first at place `i`.
+#[tactic(auto, unfolding(mesh_model::specs::Grammar::point))]
 fn point(words: &[&[u8]], i: usize) -> Result<[u32; 3], Reason>
     requires { i + 2 < length words.now }
     ensures { result ≡ grammar.point (texts words.now) i }
@@ -133,6 +139,7 @@ fn extent(roots: u32, n: u32, level: u32) -> u32
 }
 
 /// Whether the box begins below its end on each axis, and ends within the domain.
+#[tactic(auto, unfolding(mesh_model::specs::Grammar::is_box))]
 fn is_box(shape: &Shape, level: u32, low: &[u32; 3], high: &[u32; 3]) -> bool
     requires shape { IsShape shape.now }
     requires level { level ≤ 10 }
@@ -147,6 +154,7 @@ fn is_box(shape: &Shape, level: u32, low: &[u32; 3], high: &[u32; 3]) -> bool
 }
 
 /// `fill VAR all V`
+#[tactic(auto, unfolding(mesh_model::specs::Grammar::fill_all))]
 fn fill_all(declared: &Declared, words: &[&[u8]]) -> Result<Command, Reason>
     requires { length words.now ≡ 4 }
     ensures { result ≡ grammar.fill_all declared.now (texts words.now) }
@@ -158,6 +166,7 @@ fn fill_all(declared: &Declared, words: &[&[u8]]) -> Result<Command, Reason>
 }
 
 /// `fill VAR box L X0 Y0 Z0 X1 Y1 Z1 V`
+#[tactic(auto, unfolding(mesh_model::specs::Grammar::fill_box))]
 fn fill_box(declared: &Declared, words: &[&[u8]]) -> Result<Command, Reason>
     requires words { length words.now ≡ 11 }
     requires shape { IsShape declared.now.shape }
@@ -195,6 +204,7 @@ pub fn fill(declared: &Declared, words: &[&[u8]]) -> Result<Command, Reason>
 }
 
 /// `print VAR`
+#[tactic(auto, unfolding(mesh_model::specs::Grammar::print))]
 pub fn print(declared: &Declared, words: &[&[u8]]) -> Result<Command, Reason>
     requires { length words.now ≡ 2 }
     ensures { result ≡ grammar.print declared.now (texts words.now) }
@@ -204,6 +214,7 @@ pub fn print(declared: &Declared, words: &[&[u8]]) -> Result<Command, Reason>
 }
 
 /// `total VAR`
+#[tactic(auto, unfolding(mesh_model::specs::Grammar::total))]
 pub fn total(declared: &Declared, words: &[&[u8]]) -> Result<Command, Reason>
     requires { length words.now ≡ 2 }
     ensures { result ≡ grammar.total declared.now (texts words.now) }
