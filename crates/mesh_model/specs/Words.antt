@@ -1,5 +1,5 @@
 -- The words of a script: its lines, the words of a line, and which words are numbers and names.
-use Rattle.std.specs.Prelude.{ℕ, ◌+◌, ◌-◌, ◌*◌, Bool, true, false, not, ◌&&◌, ◌||◌, ◌==◌, nat_le, if◌then◌else◌, List, [], ◌∷◌, length, drop, Option, Some, None, ℤ, pos, neg_ℤ, fold, filter, slice_index, slice_index_or, codes, bytes_eq}
+use Rattle.std.specs.Prelude.{ℕ, ◌+◌, ◌-◌, ◌*◌, Bool, true, false, not, ◌&&◌, ◌||◌, ◌==◌, nat_le, if◌then◌else◌, List, [], ◌∷◌, length, Option, Some, None, ℤ, pos, neg_ℤ, fold, filter, slice_index, slice_index_or, codes, bytes_eq}
 use Rattle.std.specs.List.{slice_split, list_any, list_all}
 
 -- lines are parted by LF
@@ -41,12 +41,17 @@ abbrev pub is_positive : List ℕ → Bool
 is_positive [] = false
 is_positive (d ∷ ds) = nat_le 49 d && nat_le d 57 && list_all is_digit ds
 
+-- the digits of a word that begins with a minus
+abbrev pub after_minus : List ℕ → List ℕ
+after_minus [] = []
+after_minus (b ∷ bs) = if b == 45 then bs else []
+
 -- the number that a word is: 0, or a positive one, or - followed by a positive one
 unfoldable pub number_of : List ℕ → Option ℤ
 number_of w =
     if bytes_eq w (codes "0") then Some (pos 0)
     else if is_positive w then Some (pos (digits_value w))
-    else if (slice_index w 0 == 45) && is_positive (drop 1 w) then Some (neg_ℤ (pos (digits_value (drop 1 w))))
+    else if is_positive (after_minus w) then Some (neg_ℤ (pos (digits_value (after_minus w))))
     else None
 
 -- a to z; a to z, 0 to 9 and _

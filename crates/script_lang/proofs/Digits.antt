@@ -1,12 +1,12 @@
 -- Numbers and names by their bytes.
-use Rattle.std.proofs.Common.{◌≡◌, ℕ, zero, suc, ◌+◌, ◌-◌, ◌*◌, ◌^◌, ◌<◌, ◌≤◌, Bool, true, false, ◌&&◌, List, [], ◌∷◌, length, get_or, drop, slice_index, Option, Some, None, Result, Ok, Err, ℤ, pos, negsuc, neg_ℤ, unsigned_abs, nat_le, ◌==◌, int_le, bytes_eq, codes, refl, sym, ap, ◌∙◌, arith}
+use Rattle.std.proofs.Common.{◌≡◌, ℕ, zero, suc, ◌+◌, ◌-◌, ◌*◌, ◌^◌, ◌<◌, ◌≤◌, Bool, true, false, ◌&&◌, List, [], ◌∷◌, length, get_or, slice_index, Option, Some, None, Result, Ok, Err, ℤ, pos, negsuc, neg_ℤ, unsigned_abs, nat_le, int_le, bytes_eq, codes, refl, sym, ap, ◌∙◌, arith}
 use Rattle.std.proofs.lemmas.Bool.Decides.{nat_tests}
 use Rattle.std.proofs.lemmas.Int.{ints}
 use Rattle.std.specs.List.{list_all}
 use Rattle.std.specs.Str.{IsAscii}
 use Rattle.mesh_model.specs.declared.script.Reason.{Reason}
 use Rattle.mesh_model.specs.declared.script.Reason.TheVariants.{NotNumber, OutOfRange}
-use Rattle.mesh_model.specs.Words.{is_digit, is_positive, is_letter, is_name_byte, is_name, number_of, digits_value}
+use Rattle.mesh_model.specs.Words.{is_digit, is_positive, is_letter, is_name_byte, is_name, number_of, digits_value, after_minus}
 use Rattle.mesh_model.specs.Grammar.{check, found, number, count}
 
 both : (a b : Bool) → (a && b) ≡ true → (a ≡ true) × (b ≡ true)
@@ -54,11 +54,11 @@ pub number_positive : (most : ℕ) (w : List ℕ) → bytes_eq w (codes "0") ≡
 unfolding number number_of
 number_positive most w h p = rw (h, p) refl
 
-pub number_negative : (most : ℕ) (w : List ℕ) → bytes_eq w (codes "0") ≡ false → is_positive w ≡ false → slice_index w 0 ≡ 45 → is_positive (drop 1 w) ≡ true → number most w ≡ check (nat_le (digits_value (drop 1 w)) most) OutOfRange (neg_ℤ (pos (digits_value (drop 1 w))))
+pub number_negative : (most : ℕ) (w : List ℕ) → bytes_eq w (codes "0") ≡ false → is_positive w ≡ false → is_positive (after_minus w) ≡ true → number most w ≡ check (nat_le (digits_value (after_minus w)) most) OutOfRange (neg_ℤ (pos (digits_value (after_minus w))))
 unfolding number number_of
-number_negative most w h p minus q = rw (h, p, minus, q, same_size (pos (digits_value (drop 1 w)))) refl
+number_negative most w h p q = rw (h, p, q, same_size (pos (digits_value (after_minus w)))) refl
 
-pub number_none : (most : ℕ) (w : List ℕ) → bytes_eq w (codes "0") ≡ false → is_positive w ≡ false → ((slice_index w 0 == 45) && is_positive (drop 1 w)) ≡ false → number most w ≡ Err NotNumber
+pub number_none : (most : ℕ) (w : List ℕ) → bytes_eq w (codes "0") ≡ false → is_positive w ≡ false → is_positive (after_minus w) ≡ false → number most w ≡ Err NotNumber
 unfolding number number_of
 number_none most w h p q = rw (h, p, q) refl
 
@@ -87,7 +87,7 @@ refused : (low high : ℕ) (o : Option ℤ) (e : Reason) → high < 2 ^ 32 → w
 refused low high None e h r = cc
 refused low high (Some z) e h r =
     let t = check_failed _ _ e z r in
-    rw far low high z h t.0 (ap Err t.1)
+    ap (λ b. check b OutOfRange (unsigned_abs z)) (far low high z h t.0) ∙ ap Err t.1
 
 taken : (low high : ℕ) (o : Option ℤ) (v : ℤ) → within (2 ^ 40) o ≡ Ok v → between low high o ≡ check (int_le (pos low) v && int_le v (pos high)) OutOfRange (unsigned_abs v)
 taken low high None v r = absurd (cc)

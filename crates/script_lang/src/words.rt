@@ -1,5 +1,5 @@
 // The words of a script: lines, words, numbers and names.
-ghost use Rattle.std.specs.Prelude.{◌≡◌, ℕ, ◌^◌, ◌≤◌, min, map, true, IfOk, nat_le, pos, unsigned_abs};
+ghost use Rattle.std.specs.Prelude.{◌≡◌, ℕ, ◌^◌, ◌≤◌, min, map, true, IfOk, nat_le, pos, neg_ℤ, unsigned_abs};
 ghost use Rattle.mesh_model.specs.declared.script.Reason.TheVariants.{OutOfRange};
 ghost use Rattle.std.specs.List.{list_all};
 ghost use Rattle.mesh_model.specs.Words as plain;
@@ -89,6 +89,30 @@ fn size_of(digits: &[u8], most: u64) -> Result<i64, Reason>
     Ok(value as i64)
 }
 
+/// The same with a minus.
+fn negative(digits: &[u8], most: u64) -> Result<i64, Reason>
+    requires positive { plain.is_positive digits.now ≡ true }
+    requires most { most ≤ 2 ^ 40 }
+    ensures { result ≡ grammar.check (nat_le (plain.digits_value digits.now) most) OutOfRange (neg_ℤ (pos (plain.digits_value digits.now))) }
+{
+    let value = value_of(digits);
+    if value > most {
+        return Err(Reason::OutOfRange);
+    }
+    Ok(-(value as i64))
+}
+
+/// The digits after a minus.
+fn after_minus(word: &[u8]) -> &[u8]
+    ensures { result.now ≡ plain.after_minus word.now }
+{
+    if !word.is_empty() && word[0] == b'-' {
+        &word[1..]
+    } else {
+        &[]
+    }
+}
+
 /// The number that the word is, of absolute value at most `most`: `NotNumber` or `OutOfRange` where it
 /// is none.
 pub fn number(word: &[u8], most: u64) -> Result<i64, Reason>
@@ -101,9 +125,9 @@ pub fn number(word: &[u8], most: u64) -> Result<i64, Reason>
     if is_positive(word) {
         return size_of(word, most);
     }
-    if !word.is_empty() && word[0] == b'-' && is_positive(&word[1..]) {
-        let size = size_of(&word[1..], most)?;
-        return Ok(-size);
+    let digits = after_minus(word);
+    if is_positive(digits) {
+        return negative(digits, most);
     }
     Err(Reason::NotNumber)
 }
