@@ -1,5 +1,5 @@
 // The words of a script: lines, words, numbers and names.
-ghost use Rattle.std.specs.Prelude.{◌≡◌, ℕ, ◌^◌, ◌≤◌, min, map, true, IfOk, nat_le, pos, neg_ℤ, unsigned_abs};
+ghost use Rattle.std.specs.Prelude.{◌≡◌, ℕ, ◌^◌, ◌≤◌, min, map, true, IfOk, nat_le, pos, neg_ℤ, unsigned_abs, int_le, ◌&&◌};
 ghost use Rattle.mesh_model.specs.declared.script.Reason.TheVariants.{OutOfRange};
 ghost use Rattle.std.specs.List.{list_all};
 ghost use Rattle.mesh_model.specs.Words as plain;
@@ -132,16 +132,24 @@ pub fn number(word: &[u8], most: u64) -> Result<i64, Reason>
     Err(Reason::NotNumber)
 }
 
+/// The value, where it lies from `low` to `high`.
+fn in_range(value: i64, low: u32, high: u32) -> Result<u32, Reason>
+    ensures value { result ≡ grammar.check (int_le (pos low) value && int_le value (pos high)) OutOfRange (unsigned_abs value) }
+    ensures range { IfOk result (λ n. (low ≤ n) × (n ≤ high)) }
+{
+    if value < low as i64 || value > high as i64 {
+        return Err(Reason::OutOfRange);
+    }
+    Ok(value as u32)
+}
+
 /// The number from `low` to `high` that the word is.
 pub fn count(word: &[u8], low: u32, high: u32) -> Result<u32, Reason>
     ensures value { result ≡ grammar.count low high word.now }
     ensures range { IfOk result (λ n. (low ≤ n) × (n ≤ high)) }
 {
     let value = number(word, 1 << 40)?;
-    if value < low as i64 || value > high as i64 {
-        return Err(Reason::OutOfRange);
-    }
-    Ok(value as u32)
+    in_range(value, low, high)
 }
 
 /// The one of these numbers, at most 8, that the word is.

@@ -10,7 +10,13 @@ pub returns-then-is_positive : goal.returns-then-is_positive
 returns-then-is_positive c = c.size_of.ensures.value ∙ sym (number_positive _ _ (ap (bytes_eq c.args.word.now) (sym c.as_slice.ensures) ∙ sym c.eq.ensures ∙ c.if-eq.false) (sym c.is_positive.ensures ∙ c.if-is_positive.true))
 
 pub returns-then-is_positive-2 : goal.returns-then-is_positive-2
-returns-then-is_positive-2 c = ?
+returns-then-is_positive-2 c =
+    let zero : bytes_eq c.args.word.now (codes "0") ≡ false = ap (bytes_eq c.args.word.now) (sym c.as_slice.ensures) ∙ sym c.eq.ensures ∙ c.if-eq.false in
+    let here : is_positive (after_minus c.args.word.now) ≡ true = ap is_positive (sym c.after_minus-digits.ensures) ∙ sym c.is_positive-2.ensures ∙ c.if-is_positive-2.true in
+    (rw c.after_minus-digits.ensures at c.negative.ensures) ∙ sym (number_negative c.args.most c.args.word.now zero (sym c.is_positive.ensures ∙ c.if-is_positive.false) here)
 
 pub returns : goal.returns
-returns c = ?
+returns c =
+    let zero : bytes_eq c.args.word.now (codes "0") ≡ false = ap (bytes_eq c.args.word.now) (sym c.as_slice.ensures) ∙ sym c.eq.ensures ∙ c.if-eq.false in
+    let here : is_positive (after_minus c.args.word.now) ≡ false = ap is_positive (sym c.after_minus-digits.ensures) ∙ sym c.is_positive-2.ensures ∙ c.if-is_positive-2.false in
+    sym (number_none c.args.most c.args.word.now zero (sym c.is_positive.ensures ∙ c.if-is_positive.false) here)
