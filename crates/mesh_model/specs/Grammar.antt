@@ -1,6 +1,7 @@
 -- The language of scripts: what a list of bytes says, or the first fault in it.
 use Rattle.std.specs.Prelude.{ℕ, ◌+◌, ◌-◌, ◌^◌, ◌≤◌, Bool, true, false, not, ◌&&◌, ◌||◌, ◌==◌, nat_lt, nat_le, if◌then◌else◌, List, [], ◌∷◌, ◌++◌, length, replicate, Option, Some, None, Result, Ok, Err, ℤ, pos, unsigned_abs, int_le, codes, bytes_eq, count_by, is_some, position, slice_index}
 use Rattle.std.specs.List.{list_any}
+use Rattle.std.specs.Option.{option_or, option_map}
 use Rattle.amr_num.specs.declared.Axis.{Axis}
 use Rattle.amr_num.specs.declared.Axis.TheVariants.{X, Y, Z}
 use Rattle.amr_num.specs.declared.SideKind.TheVariants.{Periodic}
@@ -11,7 +12,11 @@ use Rattle.mesh_model.specs.declared.script.Declared.{Declared}
 use Rattle.mesh_model.specs.declared.script.Group.{Group}
 use Rattle.mesh_model.specs.declared.script.Group.TheVariants.{Cell}
 use Rattle.mesh_model.specs.declared.script.Keyword.{Keyword}
-use Rattle.mesh_model.specs.declared.script.Keyword.TheVariants as key
+use Rattle.mesh_model.specs.declared.script.Keyword.TheVariants.{Declares, Acts, Ends}
+use Rattle.mesh_model.specs.declared.script.Declaration.{Declaration}
+use Rattle.mesh_model.specs.declared.script.Declaration.TheVariants as declaration
+use Rattle.mesh_model.specs.declared.script.Action.{Action}
+use Rattle.mesh_model.specs.declared.script.Action.TheVariants as action
 use Rattle.mesh_model.specs.declared.script.Line.{Line}
 use Rattle.mesh_model.specs.declared.script.Reading.{Reading}
 use Rattle.mesh_model.specs.declared.script.Reason.{Reason}
@@ -153,6 +158,10 @@ fill_box d words = do
   value ← leaf_number (word words 10)
   check (is_box d.shape level low high) BadBox (FillBox var level low high value)
 
+-- fill, with 4 words or with 11
+unfoldable pub fill : Declared → List (List ℕ) → Result Command Reason
+fill d words = if length words == 4 then fill_all d words else fill_box d words
+
 -- print VAR
 unfoldable pub print : Declared → List (List ℕ) → Result Command Reason
 print d words = do
@@ -165,99 +174,111 @@ total d words = do
   var ← cell_variable d.names (word words 1)
   Ok (Total var)
 
--- COMMANDS
+-- THE TABLES: what each line says, by its first word
 
--- the commands of the language
-unfoldable pub keyword_of : List ℕ → Option Keyword
-keyword_of w =
-    if bytes_eq w (codes "domain") then Some key.Domain
-    else if bytes_eq w (codes "cells") then Some key.Cells
-    else if bytes_eq w (codes "cellvar") then Some key.CellVar
-    else if bytes_eq w (codes "fill") then Some key.Fill
-    else if bytes_eq w (codes "print") then Some key.Print
-    else if bytes_eq w (codes "total") then Some key.Total
-    else if bytes_eq w (codes "end") then Some key.End
+unfoldable pub declaration_of : List ℕ → Option Declaration
+declaration_of w =
+    if bytes_eq w (codes "domain") then Some declaration.Domain
+    else if bytes_eq w (codes "cells") then Some declaration.Cells
+    else if bytes_eq w (codes "cellvar") then Some declaration.CellVar
     else None
 
+unfoldable pub action_of : List ℕ → Option Action
+action_of w =
+    if bytes_eq w (codes "fill") then Some action.Fill
+    else if bytes_eq w (codes "print") then Some action.Print
+    else if bytes_eq w (codes "total") then Some action.Total
+    else None
+
+unfoldable pub keyword_of : List ℕ → Option Keyword
+keyword_of w = option_or (option_map Declares (declaration_of w)) (option_or (option_map Acts (action_of w)) (if bytes_eq w (codes "end") then Some Ends else None))
+
+-- how many words the line has, with the first
+abbrev pub declaration_has : Declaration → ℕ → Bool
+declaration_has declaration.Domain n = n == 4
+declaration_has declaration.Cells n = n == 3
+declaration_has declaration.CellVar n = n == 2
+
+abbrev pub action_has : Action → ℕ → Bool
+action_has action.Fill n = (n == 4) || (n == 11)
+action_has action.Print n = n == 2
+action_has action.Total n = n == 2
+
+abbrev pub has_count : Keyword → ℕ → Bool
+has_count (Declares d) n = declaration_has d n
+has_count (Acts a) n = action_has a n
+has_count Ends n = n == 1
+
+-- it may come once, and came before
+abbrev pub is_repeated : Reading → Declaration → Bool
+is_repeated r declaration.Domain = r.domain
+is_repeated r declaration.Cells = r.cells
+is_repeated r declaration.CellVar = false
+
+-- what is known after it
+unfoldable pub declares : Reading → Declaration → List (List ℕ) → Result Reading Reason
+declares r declaration.Domain words = do
+  shape ← domain r.declared.shape words
+  Ok (record r { declared = record { shape = shape; names = r.declared.names }; domain = true })
+declares r declaration.Cells words = do
+  shape ← cells r.declared.shape words
+  Ok (record r { declared = record { shape = shape; names = r.declared.names }; cells = true })
+declares r declaration.CellVar words = do
+  names ← cellvar r.declared.names words
+  Ok (record r { declared = record { shape = r.declared.shape; names = names } })
+
+-- its command
+unfoldable pub acts : Declared → Action → List (List ℕ) → Result Command Reason
+acts d action.Fill words = fill d words
+acts d action.Print words = print d words
+acts d action.Total words = total d words
+
+-- LINES
+
 abbrev pub is_domain : Keyword → Bool
-is_domain key.Domain = true
-is_domain key.Cells = false
-is_domain key.CellVar = false
-is_domain key.Fill = false
-is_domain key.Print = false
-is_domain key.Total = false
-is_domain key.End = false
+is_domain (Declares declaration.Domain) = true
+is_domain (Declares declaration.Cells) = false
+is_domain (Declares declaration.CellVar) = false
+is_domain (Acts a) = false
+is_domain Ends = false
 
 abbrev pub is_declaration : Keyword → Bool
-is_declaration key.Domain = true
-is_declaration key.Cells = true
-is_declaration key.CellVar = true
-is_declaration key.Fill = false
-is_declaration key.Print = false
-is_declaration key.Total = false
-is_declaration key.End = false
+is_declaration (Declares d) = true
+is_declaration (Acts a) = false
+is_declaration Ends = false
 
--- a declaration that may come once, and came before
-abbrev pub is_repeated : Reading → Keyword → Bool
-is_repeated r key.Domain = r.domain
-is_repeated r key.Cells = r.cells
-is_repeated r key.CellVar = false
-is_repeated r key.Fill = false
-is_repeated r key.Print = false
-is_repeated r key.Total = false
-is_repeated r key.End = false
+abbrev pub comes_again : Reading → Keyword → Bool
+comes_again r (Declares d) = is_repeated r d
+comes_again r (Acts a) = false
+comes_again r Ends = false
 
--- how many words the line may have, with the first
-abbrev pub has_count : Keyword → ℕ → Bool
-has_count key.Domain n = n == 4
-has_count key.Cells n = n == 3
-has_count key.CellVar n = n == 2
-has_count key.Fill n = (n == 4) || (n == 11)
-has_count key.Print n = n == 2
-has_count key.Total n = n == 2
-has_count key.End n = n == 1
-
--- a command stands where it may, with as many words as it has
-abbrev pub placed : Reading → Keyword → ℕ → Result Keyword Reason
+-- the line stands where it may, with as many words as it has
+unfoldable pub placed : Reading → Keyword → ℕ → Result Keyword Reason
 placed r k n =
     if not (r.domain || is_domain k) then Err DomainMissing
     else if is_declaration k && r.acting then Err TooLate
-    else if is_repeated r k then Err Twice
+    else if comes_again r k then Err Twice
     else if not (has_count k n) then Err WordCount
     else Ok k
 
--- the command of a line, by the steps before the words after the first are read
+-- what the first word says, where no step before the other words refuses
 unfoldable pub command_of : Reading → List (List ℕ) → Result Keyword Reason
 command_of r words = if r.ended then Err TextAfterEnd else do
   k ← found UnknownCommand (keyword_of (word words 0))
   placed r k (length words)
 
--- a line's own meaning: what is known after it, and its action if it is one
+-- what is known after a line, and its command if it acts
 abbrev pub Said : Type 0
 Said = Reading × Option Command
 
-abbrev pub acts : Reading → Result Command Reason → Result Said Reason
-acts r read = do
-  command ← read
-  Ok (record r { acting = true }, Some command)
-
-abbrev pub fill : Declared → List (List ℕ) → Result Command Reason
-fill d words = if length words == 4 then fill_all d words else fill_box d words
-
 unfoldable pub says : Reading → Keyword → List (List ℕ) → Result Said Reason
-says r key.Domain words = do
-  shape ← domain r.declared.shape words
-  Ok (record r { declared = record { shape = shape; names = r.declared.names }; domain = true }, None)
-says r key.Cells words = do
-  shape ← cells r.declared.shape words
-  Ok (record r { declared = record { shape = shape; names = r.declared.names }; cells = true }, None)
-says r key.CellVar words = do
-  names ← cellvar r.declared.names words
-  Ok (record r { declared = record { shape = r.declared.shape; names = names } }, None)
-says r key.Fill words = acts r (fill r.declared words)
-says r key.Print words = acts r (print r.declared words)
-says r key.Total words = acts r (total r.declared words)
-says r key.End words = Ok (record r { ended = true }, None)
+says r (Declares d) words = do
+  after ← declares r d words
+  Ok (after, None)
+says r (Acts a) words = do
+  command ← acts r.declared a words
+  Ok (record r { acting = true }, Some command)
+says r Ends words = Ok (record r { ended = true }, None)
 
 -- a line by its words
 unfoldable pub line_of : Reading → List (List ℕ) → Result Said Reason

@@ -39,16 +39,29 @@ pub enum Command {
     Total { var: u32 },
 }
 
-/// The first word of a line that says something.
+/// The lines that declare, by their first word.
 #[derive(Clone, Copy, Debug, PartialEq, Eq)]
-pub enum Keyword {
+pub enum Declaration {
     Domain,
     Cells,
     CellVar,
+}
+
+/// The lines that act, by their first word.
+#[derive(Clone, Copy, Debug, PartialEq, Eq)]
+pub enum Action {
     Fill,
     Print,
     Total,
-    End,
+}
+
+/// What a line does, by its first word.
+#[derive(Clone, Copy, Debug, PartialEq, Eq)]
+pub enum Keyword {
+    Declares(Declaration),
+    Acts(Action),
+    /// The word `end`.
+    Ends,
 }
 
 /// Why a line of a script, or the whole script, is refused.

@@ -1,9 +1,8 @@
 // The words of each command, from left to right.
-ghost use Rattle.std.specs.Prelude.{◌≡◌, ℕ, ◌+◌, ◌*◌, ◌^◌, ◌<◌, ◌≤◌, ◌⊎◌, true, Ok, Err, length, MatchResult};
+ghost use Rattle.std.specs.Prelude.{◌≡◌, ℕ, ◌+◌, ◌*◌, ◌^◌, ◌<◌, ◌≤◌, ◌⊎◌, true, Ok, Err, length, MatchResult, IfOk};
 ghost use Rattle.mesh_model.specs.Grammar as grammar;
 ghost use Rattle.mesh_model.specs.Words.{is_name, word};
-ghost use Rattle.mesh_model.specs.Valid.{IsShape};
-ghost use Rattle.script_lang.specs.Answers.{texts};
+ghost use Rattle.script_lang.specs.Answers.{texts, IsNarrow};
 
 use crate::words::{count, fixed, is_name, number, one_of};
 use mesh_model::Shape;
@@ -76,8 +75,10 @@ fn new_cell_name<'a>(names: &Names, word: &'a [u8]) -> Result<&'a str, Reason>
 /// `domain RX RY RZ`
 #[tactic(auto, unfolding(mesh_model::specs::Grammar::domain))]
 pub fn domain(shape: Shape, words: &[&[u8]]) -> Result<Shape, Reason>
-    requires { length words.now ≡ 4 }
-    ensures { result ≡ grammar.domain shape (texts words.now) }
+    requires words { length words.now ≡ 4 }
+    requires narrow { IsNarrow shape }
+    ensures domain { result ≡ grammar.domain shape (texts words.now) }
+    ensures narrow { IfOk result IsNarrow }
 {
     let rx = count(word(words, 1), 1, 8)?;
     let ry = count(word(words, 2), 1, 1)?;
@@ -93,8 +94,10 @@ pub fn domain(shape: Shape, words: &[&[u8]]) -> Result<Shape, Reason>
 /// `cells N G`
 #[tactic(auto, unfolding(mesh_model::specs::Grammar::cells))]
 pub fn cells(shape: Shape, words: &[&[u8]]) -> Result<Shape, Reason>
-    requires { length words.now ≡ 3 }
-    ensures { result ≡ grammar.cells shape (texts words.now) }
+    requires words { length words.now ≡ 3 }
+    requires narrow { IsNarrow shape }
+    ensures cells { result ≡ grammar.cells shape (texts words.now) }
+    ensures narrow { IfOk result IsNarrow }
 {
     let n = one_of(word(words, 1), &[4, 8])?;
     let g = one_of(word(words, 2), &[1, 2, 4])?;
@@ -141,7 +144,7 @@ fn extent(roots: u32, n: u32, level: u32) -> u32
 /// Whether the box begins below its end on each axis, and ends within the domain.
 #[tactic(auto, unfolding(mesh_model::specs::Grammar::is_box))]
 fn is_box(shape: &Shape, level: u32, low: &[u32; 3], high: &[u32; 3]) -> bool
-    requires shape { IsShape shape.now }
+    requires narrow { IsNarrow shape.now }
     requires level { level ≤ 10 }
     ensures { result ≡ grammar.is_box shape.now level low.now high.now }
 {
@@ -169,7 +172,7 @@ fn fill_all(declared: &Declared, words: &[&[u8]]) -> Result<Command, Reason>
 #[tactic(auto, unfolding(mesh_model::specs::Grammar::fill_box))]
 fn fill_box(declared: &Declared, words: &[&[u8]]) -> Result<Command, Reason>
     requires words { length words.now ≡ 11 }
-    requires shape { IsShape declared.now.shape }
+    requires narrow { IsNarrow declared.now.shape }
     ensures { result ≡ grammar.fill_box declared.now (texts words.now) }
 {
     let var = cell_variable(&declared.names, word(words, 1))?;
@@ -191,9 +194,10 @@ fn fill_box(declared: &Declared, words: &[&[u8]]) -> Result<Command, Reason>
 }
 
 /// `fill` with 4 or 11 words
+#[tactic(auto, unfolding(mesh_model::specs::Grammar::fill))]
 pub fn fill(declared: &Declared, words: &[&[u8]]) -> Result<Command, Reason>
     requires words { (length words.now ≡ 4) ⊎ (length words.now ≡ 11) }
-    requires shape { IsShape declared.now.shape }
+    requires narrow { IsNarrow declared.now.shape }
     ensures { result ≡ grammar.fill declared.now (texts words.now) }
 {
     if words.len() == 4 {

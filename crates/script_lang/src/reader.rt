@@ -1,10 +1,17 @@
-// Reading a script.
-ghost use Rattle.std.specs.Prelude.{◌≡◌, IfOk, Ok, Err, All};
+// Reading a script, line by line.
+ghost use Rattle.std.specs.Prelude.{◌≡◌, ℕ, ◌<◌, ◌≤◌, ◌^◌, true, false, length, IfOk, Option, Ok, Err, All};
+ghost use Rattle.mesh_model.specs.Grammar as grammar;
 ghost use Rattle.mesh_model.specs.Grammar.{Fault, script_of};
+ghost use Rattle.mesh_model.specs.Words as plain;
 ghost use Rattle.mesh_model.specs.Commands.{plain_script, InLimits, IsLineOf};
+ghost use Rattle.script_lang.specs.Answers.{texts, Answers, IsNarrow};
 
-use mesh_model::script::{Reason, Script};
-use std::alloc::Global;
+use crate::commands::{cells, cellvar, domain, fill, print, total, word};
+use crate::words::{lines_of, words_of};
+use mesh_model::script::{
+    Action, Command, Declaration, Declared, Keyword, Line, Reading, Reason, Script,
+};
+use std::alloc::{AllocError, Global};
 
 /// Why no script was read.
 #[derive(Clone, Copy, Debug, PartialEq, Eq)]
@@ -20,6 +27,253 @@ pub enum ScriptStop {
 enum Stop {
     Fault(Reason),
     OutOfMemory,
+}
+
+impl From<Reason> for Stop {
+    ghost use Rattle.script_lang.specs.declared.reader.Stop.TheVariants.{Fault as Faulty};
+
+    ghost from_gives = { λ reason stop. stop ≡ Faulty reason };
+
+    fn from(reason: Reason) -> Self {
+        Stop::Fault(reason)
+    }
+}
+
+impl From<AllocError> for Stop {
+    ghost use Rattle.script_lang.specs.declared.reader.Stop.TheVariants.{OutOfMemory};
+
+    ghost from_gives = { λ _ stop. stop ≡ OutOfMemory };
+
+    fn from(_: AllocError) -> Self {
+        Stop::OutOfMemory
+    }
+}
+
+#[tactic(auto, unfolding(mesh_model::specs::Grammar::declaration_of))]
+fn declaration_of(word: &[u8]) -> Option<Declaration>
+    ensures { result ≡ grammar.declaration_of word.now }
+{
+    if word == b"domain".as_slice() {
+        return Some(Declaration::Domain);
+    }
+    if word == b"cells".as_slice() {
+        return Some(Declaration::Cells);
+    }
+    if word == b"cellvar".as_slice() {
+        return Some(Declaration::CellVar);
+    }
+    None
+}
+
+#[tactic(auto, unfolding(mesh_model::specs::Grammar::action_of))]
+fn action_of(word: &[u8]) -> Option<Action>
+    ensures { result ≡ grammar.action_of word.now }
+{
+    if word == b"fill".as_slice() {
+        return Some(Action::Fill);
+    }
+    if word == b"print".as_slice() {
+        return Some(Action::Print);
+    }
+    if word == b"total".as_slice() {
+        return Some(Action::Total);
+    }
+    None
+}
+
+#[tactic(auto, unfolding(mesh_model::specs::Grammar::keyword_of))]
+fn keyword_of(word: &[u8]) -> Option<Keyword>
+    ensures { result ≡ grammar.keyword_of word.now }
+{
+    if let Some(declaration) = declaration_of(word) {
+        return Some(Keyword::Declares(declaration));
+    }
+    if let Some(action) = action_of(word) {
+        return Some(Keyword::Acts(action));
+    }
+    if word == b"end".as_slice() {
+        return Some(Keyword::Ends);
+    }
+    None
+}
+
+/// Whether the line may have `n` words, with the first.
+fn has_count(keyword: Keyword, n: usize) -> bool
+    ensures { result ≡ grammar.has_count keyword n }
+{
+    match keyword {
+        Keyword::Declares(Declaration::Domain) => n == 4,
+        Keyword::Declares(Declaration::Cells) => n == 3,
+        Keyword::Declares(Declaration::CellVar) => n == 2,
+        Keyword::Acts(Action::Fill) => n == 4 || n == 11,
+        Keyword::Acts(Action::Print) => n == 2,
+        Keyword::Acts(Action::Total) => n == 2,
+        Keyword::Ends => n == 1,
+    }
+}
+
+/// Whether the line may come once, and came before.
+fn comes_again(reading: &Reading, keyword: Keyword) -> bool
+    ensures { result ≡ grammar.comes_again reading.now keyword }
+{
+    match keyword {
+        Keyword::Declares(Declaration::Domain) => reading.domain,
+        Keyword::Declares(Declaration::Cells) => reading.cells,
+        _ => false,
+    }
+}
+
+fn is_domain(keyword: Keyword) -> bool
+    ensures { result ≡ grammar.is_domain keyword }
+{
+    match keyword {
+        Keyword::Declares(Declaration::Domain) => true,
+        _ => false,
+    }
+}
+
+fn is_declaration(keyword: Keyword) -> bool
+    ensures { result ≡ grammar.is_declaration keyword }
+{
+    match keyword {
+        Keyword::Declares(_) => true,
+        _ => false,
+    }
+}
+
+/// Whether a line of `n` words that does this may stand here.
+#[tactic(auto, unfolding(mesh_model::specs::Grammar::placed))]
+fn placed(reading: &Reading, keyword: Keyword, n: usize) -> Result<Keyword, Reason>
+    ensures placed { result ≡ grammar.placed reading.now keyword n }
+    ensures counted { IfOk result (λ k. grammar.has_count k n ≡ true) }
+{
+    if !reading.domain && !is_domain(keyword) {
+        return Err(Reason::DomainMissing);
+    }
+    if is_declaration(keyword) && reading.acting {
+        return Err(Reason::TooLate);
+    }
+    if comes_again(reading, keyword) {
+        return Err(Reason::Twice);
+    }
+    if !has_count(keyword, n) {
+        return Err(Reason::WordCount);
+    }
+    Ok(keyword)
+}
+
+/// What the line does, as far as its first word and the number of its words say.
+#[tactic(auto, unfolding(mesh_model::specs::Grammar::command_of))]
+fn command_of(reading: &Reading, words: &[&[u8]]) -> Result<Keyword, Reason>
+    requires { 0 < length words.now }
+    ensures command { result ≡ grammar.command_of reading.now (texts words.now) }
+    ensures counted { IfOk result (λ k. grammar.has_count k (length words.now) ≡ true) }
+{
+    if reading.ended {
+        return Err(Reason::TextAfterEnd);
+    }
+    let keyword = keyword_of(word(words, 0)).ok_or(Reason::UnknownCommand)?;
+    placed(reading, keyword, words.len())
+}
+
+/// Takes what the line declares into `reading`.
+#[tactic(auto, unfolding(mesh_model::specs::Grammar::declares, mesh_model::specs::Grammar::cellvar))]
+fn declare(
+    alloc: Global,
+    reading: &mut Reading,
+    declaration: Declaration,
+    words: &[&[u8]],
+) -> Result<(), Stop>
+    requires counted { grammar.declaration_has declaration (length words.now) ≡ true }
+    requires narrow { IsNarrow reading.old.declared.shape }
+    ensures declares { Answers (λ done. reading.new) result (grammar.declares reading.old declaration (texts words.now)) }
+    ensures narrow { IsNarrow reading.new.declared.shape }
+{
+    match declaration {
+        Declaration::Domain => {
+            reading.declared.shape = domain(reading.declared.shape, words)?;
+            reading.domain = true;
+        }
+        Declaration::Cells => {
+            reading.declared.shape = cells(reading.declared.shape, words)?;
+            reading.cells = true;
+        }
+        Declaration::CellVar => {
+            let name = cellvar(&reading.declared.names, words)?;
+            if reading.declared.names.add_cell(alloc, name).is_err() {
+                return Err(Stop::OutOfMemory);
+            }
+        }
+    }
+    Ok(())
+}
+
+/// The command of the line.
+#[tactic(auto, unfolding(mesh_model::specs::Grammar::acts))]
+fn act(declared: &Declared, action: Action, words: &[&[u8]]) -> Result<Command, Reason>
+    requires counted { grammar.action_has action (length words.now) ≡ true }
+    requires narrow { IsNarrow declared.now.shape }
+    ensures { result ≡ grammar.acts declared.now action (texts words.now) }
+{
+    match action {
+        Action::Fill => fill(declared, words),
+        Action::Print => print(declared, words),
+        Action::Total => total(declared, words),
+    }
+}
+
+/// Reads a line of these words, which does `keyword`.
+#[tactic(auto, unfolding(mesh_model::specs::Grammar::says))]
+fn read_words(
+    alloc: Global,
+    reading: &mut Reading,
+    keyword: Keyword,
+    words: &[&[u8]],
+) -> Result<Option<Command>, Stop>
+    requires counted { grammar.has_count keyword (length words.now) ≡ true }
+    requires narrow { IsNarrow reading.old.declared.shape }
+    ensures says { Answers (λ command. (reading.new, command)) result (grammar.says reading.old keyword (texts words.now)) }
+    ensures narrow { IsNarrow reading.new.declared.shape }
+{
+    match keyword {
+        Keyword::Declares(declaration) => {
+            declare(alloc, reading, declaration, words)?;
+            Ok(None)
+        }
+        Keyword::Acts(action) => {
+            let command = act(&reading.declared, action, words)?;
+            reading.acting = true;
+            Ok(Some(command))
+        }
+        Keyword::Ends => {
+            reading.ended = true;
+            Ok(None)
+        }
+    }
+}
+
+fn is_passed_over(words: &[&[u8]]) -> bool
+    ensures { result ≡ plain.is_passed_over (texts words.now) }
+{
+    match words.first() {
+        Some(first) => !first.is_empty() && first[0] == b'#',
+        None => true,
+    }
+}
+
+/// Reads a line.
+#[tactic(auto, unfolding(mesh_model::specs::Grammar::line_of))]
+fn read_line(alloc: Global, reading: &mut Reading, line: &[u8]) -> Result<Option<Command>, Stop>
+    requires narrow { IsNarrow reading.old.declared.shape }
+    ensures says { Answers (λ command. (reading.new, command)) result (grammar.line_of reading.old (plain.words_of line.now)) }
+    ensures narrow { IsNarrow reading.new.declared.shape }
+{
+    let words = words_of(alloc, line)?;
+    if is_passed_over(&words) {
+        return Ok(None);
+    }
+    let keyword = command_of(reading, &words)?;
+    read_words(alloc, reading, keyword, &words)
 }
 
 /// The script that the bytes say.

@@ -155,7 +155,8 @@ pub fn count(word: &[u8], low: u32, high: u32) -> Result<u32, Reason>
 /// The one of these numbers, at most 8, that the word is.
 #[tactic(auto, unfolding(mesh_model::specs::Grammar::one_of))]
 pub fn one_of(word: &[u8], numbers: &[u32]) -> Result<u32, Reason>
-    ensures { result ≡ grammar.one_of numbers.now word.now }
+    ensures value { result ≡ grammar.one_of numbers.now word.now }
+    ensures range { IfOk result (λ n. n ≤ 8) }
 {
     let value = count(word, 0, 8)?;
     if numbers.contains(&value) {
