@@ -1,5 +1,5 @@
 // The words of each command, from left to right.
-ghost use Rattle.std.specs.Prelude.{◌≡◌, ℕ, ◌+◌, ◌*◌, ◌^◌, ◌<◌, ◌≤◌, ◌⊎◌, true, Ok, Err, length, MatchResult, IfOk};
+ghost use Rattle.std.specs.Prelude.{◌≡◌, ℕ, ◌+◌, ◌*◌, ◌^◌, ◌<◌, ◌≤◌, ◌⊎◌, true, Ok, Err, length, MatchResult, IfOk, OnOk};
 ghost use Rattle.mesh_model.specs.Grammar as grammar;
 ghost use Rattle.mesh_model.specs.Words.{is_name, word};
 ghost use Rattle.script_lang.specs.Answers.{texts, IsNarrow};
@@ -58,7 +58,8 @@ fn text_of(name: &[u8]) -> &str
 /// The word as the name of a further cell variable.
 #[tactic(auto, unfolding(mesh_model::specs::Grammar::new_cell_name))]
 fn new_cell_name<'a>(names: &Names, word: &'a [u8]) -> Result<&'a str, Reason>
-    ensures { MatchResult result (λ s. grammar.new_cell_name names.now word.now ≡ Ok s.now) (λ e. grammar.new_cell_name names.now word.now ≡ Err e) }
+    ensures name { MatchResult result (λ s. grammar.new_cell_name names.now word.now ≡ Ok s.now) (λ e. grammar.new_cell_name names.now word.now ≡ Err e) }
+    ensures room { OnOk result (length names.now.cells < 4) }
 {
     if !is_name(word) {
         return Err(Reason::BadName);
@@ -107,7 +108,8 @@ pub fn cells(shape: Shape, words: &[&[u8]]) -> Result<Shape, Reason>
 /// `cellvar NAME`
 pub fn cellvar<'a>(names: &Names, words: &[&'a [u8]]) -> Result<&'a str, Reason>
     requires { length words.now ≡ 2 }
-    ensures { MatchResult result (λ s. grammar.new_cell_name names.now (word (texts words.now) 1) ≡ Ok s.now) (λ e. grammar.new_cell_name names.now (word (texts words.now) 1) ≡ Err e) }
+    ensures name { MatchResult result (λ s. grammar.new_cell_name names.now (word (texts words.now) 1) ≡ Ok s.now) (λ e. grammar.new_cell_name names.now (word (texts words.now) 1) ≡ Err e) }
+    ensures room { OnOk result (length names.now.cells < 4) }
 {
     new_cell_name(names, word(words, 1))
 }

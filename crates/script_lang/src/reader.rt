@@ -1,13 +1,16 @@
 // Reading a script, line by line.
-ghost use Rattle.std.specs.Prelude.{◌≡◌, ℕ, ◌<◌, ◌≤◌, ◌^◌, true, false, length, IfOk, Option, Ok, Err, All};
+ghost use Rattle.std.specs.Prelude.{◌≡◌, ℕ, ◌<◌, ◌≤◌, ◌^◌, ◌-◌, true, false, length, IfOk, IfErr, Option, Ok, Err, All};
 ghost use Rattle.mesh_model.specs.Grammar as grammar;
 ghost use Rattle.mesh_model.specs.Grammar.{Fault, script_of};
 ghost use Rattle.mesh_model.specs.Words as plain;
 ghost use Rattle.mesh_model.specs.Commands.{plain_script, InLimits, IsLineOf};
-ghost use Rattle.script_lang.specs.Answers.{texts, Answers, IsNarrow};
+ghost use Rattle.script_lang.specs.Answers.{texts, Answers, Adds, Stopped, Halts, IsNarrow};
 
 use crate::commands::{cells, cellvar, domain, fill, print, total, word};
 use crate::words::{lines_of, words_of};
+use amr_num::SideKind;
+use mesh_model::Shape;
+use mesh_model::names::Names;
 use mesh_model::script::{
     Action, Command, Declaration, Declared, Keyword, Line, Reading, Reason, Script,
 };
@@ -276,6 +279,129 @@ fn read_line(alloc: Global, reading: &mut Reading, line: &[u8]) -> Result<Option
     read_words(alloc, reading, keyword, &words)
 }
 
+/// What stops the reading of a script.
+#[derive(Clone, Copy, Debug, PartialEq, Eq)]
+enum Halt {
+    /// A fault on the line with this number, from 1; 0 where it is the script's.
+    Fault { line: u32, reason: Reason },
+    OutOfMemory,
+}
+
+impl From<AllocError> for Halt {
+    ghost use Rattle.script_lang.specs.declared.reader.Halt.TheVariants.{OutOfMemory};
+
+    ghost from_gives = { λ _ halt. halt ≡ OutOfMemory };
+
+    fn from(_: AllocError) -> Self {
+        Halt::OutOfMemory
+    }
+}
+
+/// Reads the line with this number, and adds its command to those before.
+fn add_line(
+    alloc: Global,
+    reading: &mut Reading,
+    read: &mut Vec<Line>,
+    number: u32,
+    line: &[u8],
+) -> Result<(), Halt>
+    requires narrow { IsNarrow reading.old.declared.shape }
+    ensures adds { IfOk result (λ done. Adds (grammar.line_of reading.old (plain.words_of line.now)) reading.new number read.old.items read.new.items) }
+    ensures fault { IfErr result (λ halt. Stopped halt number (grammar.line_of reading.old (plain.words_of line.now))) }
+    ensures narrow { IsNarrow reading.new.declared.shape }
+{
+    match read_line(alloc, reading, line) {
+        Ok(None) => Ok(()),
+        Ok(Some(command)) => match read.push(Line { number, command }) {
+            Ok(()) => Ok(()),
+            Err(_) => Err(Halt::OutOfMemory),
+        },
+        Err(Stop::Fault(reason)) => Err(Halt::Fault {
+            line: number,
+            reason,
+        }),
+        Err(Stop::OutOfMemory) => Err(Halt::OutOfMemory),
+    }
+}
+
+/// Reads the lines, the first of which has the number 1.
+fn read_lines(
+    alloc: Global,
+    reading: &mut Reading,
+    lines: &[&[u8]],
+) -> Result<Vec<Line>, Halt>
+    requires few { length lines.now < 2 ^ 32 - 1 }
+    requires narrow { IsNarrow reading.old.declared.shape }
+    ensures says { IfOk result (λ read. grammar.lines_say reading.old 1 (texts lines.now) ≡ Ok (reading.new, read.items)) }
+    ensures halts { IfErr result (λ halt. Halts halt (grammar.lines_say reading.old 1 (texts lines.now))) }
+{
+    let mut read = Vec::new(alloc);
+    let mut number: u32 = 1;
+    for line in lines {
+        add_line(alloc, reading, &mut read, number, line)?;
+        number += 1;
+    }
+    Ok(read)
+}
+
+/// Before the first line.
+fn at_start(alloc: Global) -> Reading
+    ensures { result ≡ grammar.at_start }
+{
+    Reading {
+        declared: Declared {
+            shape: Shape {
+                rx: 1,
+                ry: 1,
+                rz: 1,
+                n: 8,
+                g: 2,
+                min: 0,
+                max: 3,
+                sides: [SideKind::Periodic; 6],
+            },
+            names: Names::new(alloc),
+        },
+        domain: false,
+        cells: false,
+        acting: false,
+        ended: false,
+    }
+}
+
+/// The most bytes of a script.
+const MOST_BYTES: usize = 1 << 20;
+
+/// The script that the bytes say, or their first fault.
+#[tactic(auto, unfolding(mesh_model::specs::Grammar::script_of))]
+fn read(alloc: Global, bytes: &[u8]) -> Result<Script, Halt>
+    ensures script { IfOk result (λ s. script_of bytes.now ≡ Ok (plain_script s)) }
+    ensures halts { IfErr result (λ halt. Halts halt (script_of bytes.now)) }
+{
+    if bytes.len() > MOST_BYTES {
+        return Err(Halt::Fault {
+            line: 0,
+            reason: Reason::TooLong,
+        });
+    }
+    let lines = lines_of(alloc, bytes)?;
+    let mut reading = at_start(alloc);
+    let read = read_lines(alloc, &mut reading, &lines)?;
+    let Reading {
+        declared, ended, ..
+    } = reading;
+    if !ended {
+        return Err(Halt::Fault {
+            line: lines.len() as u32,
+            reason: Reason::EndMissing,
+        });
+    }
+    Ok(Script {
+        declared,
+        lines: read,
+    })
+}
+
 /// The script that the bytes say.
 pub fn read_script(alloc: Global, bytes: &[u8]) -> Result<Script, ScriptStop>
     ensures script { IfOk result (λ s. script_of bytes.now ≡ Ok (plain_script s)) }
@@ -283,7 +409,9 @@ pub fn read_script(alloc: Global, bytes: &[u8]) -> Result<Script, ScriptStop>
     ensures limits { IfOk result (λ s. InLimits s.declared) }
     ensures lines { IfOk result (λ s. All (IsLineOf s.declared) s.lines.items) }
 {
-    let _ = alloc;
-    let _ = bytes;
-    Err(ScriptStop::OutOfMemory)
+    match read(alloc, bytes) {
+        Ok(script) => Ok(script),
+        Err(Halt::Fault { .. }) => Err(ScriptStop::Refused),
+        Err(Halt::OutOfMemory) => Err(ScriptStop::OutOfMemory),
+    }
 }
