@@ -415,3 +415,89 @@ pub fn read_script(alloc: Global, bytes: &[u8]) -> Result<Script, ScriptStop>
         Err(Halt::OutOfMemory) => Err(ScriptStop::OutOfMemory),
     }
 }
+
+#[cfg(test)]
+mod tests {
+    use super::*;
+    use mesh_model::script::Group;
+    use std::process::Abort;
+    use std::test::Fail;
+
+    const ACCEPTED: &[u8] = b"# a box\ndomain 2 1 1\n\ncells 4 1\r\ncellvar u\n\tcellvar v_2  \nfill u box 0 0 1 2 8 4 4 -7\nfill v_2 all 1099511627776\nprint u\ntotal v_2\nend\n#";
+
+    #[test]
+    fn accepted(rt: HostRuntime) -> Result<(), Fail> {
+        let script = read_script(rt.alloc(), ACCEPTED)?;
+        let shape = script.declared.shape;
+        assert_eq!(rt; (shape.rx, shape.n, shape.g), (2, 4, 1));
+        assert_eq!(rt; script.declared.names.cells(), 2);
+        assert_eq!(rt; script.declared.names.cell(1), "v_2");
+        assert_eq!(rt; script.lines.len(), 4);
+        let fill_box = Command::FillBox {
+            var: 0,
+            level: 0,
+            low: [0, 1, 2],
+            high: [8, 4, 4],
+            value: -7,
+        };
+        assert_eq!(rt; script.lines[0], Line { number: 7, command: fill_box });
+        let fill_all = Command::FillAll {
+            var: 1,
+            value: 1 << 40,
+        };
+        assert_eq!(rt; script.lines[1], Line { number: 8, command: fill_all });
+        let print = Command::PrintVar {
+            group: Group::Cell(0),
+        };
+        assert_eq!(rt; script.lines[2], Line { number: 9, command: print });
+        assert_eq!(rt; script.lines[3], Line { number: 10, command: Command::Total { var: 1 } });
+        Ok(())
+    }
+
+    fn refuses(rt: &impl Abort, alloc: Global, text: &[u8], line: u32, reason: Reason) {
+        match read(alloc, text) {
+            Ok(_) => panic!(rt; "accepted"),
+            Err(halt) => assert_eq!(rt; halt, Halt::Fault { line, reason }),
+        }
+    }
+
+    #[test]
+    fn refused(rt: HostRuntime) {
+        let table: [(&[u8], u32, Reason); 12] = [
+            (b"", 1, Reason::EndMissing),
+            (b"domain 1 1 1\n", 2, Reason::EndMissing),
+            (b"end", 1, Reason::DomainMissing),
+            (b"domain 1 1 1\nspam", 2, Reason::UnknownCommand),
+            (b"domain 1 1 1\nend\n\nspam", 4, Reason::TextAfterEnd),
+            (b"domain 1 1 1\nend now", 2, Reason::WordCount),
+            (b"domain 1 1 1\ndomain 1 1 1", 2, Reason::Twice),
+            (b"domain 1 1", 1, Reason::WordCount),
+            (b"domain 9 1 1", 1, Reason::OutOfRange),
+            (b"domain 007 1 1", 1, Reason::NotNumber),
+            (b"domain 1 +1 1", 1, Reason::NotNumber),
+            (b"domain 1 1 -0", 1, Reason::NotNumber),
+        ];
+        for (text, line, reason) in table {
+            refuses(&rt, rt.alloc(), text, line, reason);
+        }
+    }
+
+    #[test]
+    fn refused_variables(rt: HostRuntime) {
+        let table: [(&[u8], u32, Reason); 10] = [
+            (b"domain 1 1 1\ncells 5 2", 2, Reason::OutOfRange),
+            (b"domain 1 1 1\ncellvar mesh", 2, Reason::BadName),
+            (b"domain 1 1 1\ncellvar abcdefghijklmnopq", 2, Reason::BadName),
+            (b"domain 1 1 1\ncellvar u\ncellvar u", 3, Reason::NameTaken),
+            (b"domain 1 1 1\ncellvar a\ncellvar b\ncellvar c\ncellvar d\ncellvar e", 6, Reason::TooMany),
+            (b"domain 1 1 1\ncellvar u\ntotal u\ncells 4 1", 4, Reason::TooLate),
+            (b"domain 1 1 1\ncellvar u\nfill v any 1", 3, Reason::UnknownVariable),
+            (b"domain 1 1 1\ncellvar u\nfill u any 1", 3, Reason::UnknownWord),
+            (b"domain 1 1 1\ncellvar u\nfill u all 10995116277760000000000000", 3, Reason::OutOfRange),
+            (b"domain 1 1 1\ncellvar u\nfill u box 0 0 0 0 8 9 8 1", 3, Reason::BadBox),
+        ];
+        for (text, line, reason) in table {
+            refuses(&rt, rt.alloc(), text, line, reason);
+        }
+    }
+}
