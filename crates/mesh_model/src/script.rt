@@ -23,7 +23,10 @@ pub enum Group {
 #[derive(Clone, Copy, Debug, PartialEq, Eq)]
 pub enum Command {
     /// Every leaf cell of the variable takes the value.
-    FillAll { var: u32, value: i64 },
+    FillAll {
+        var: u32,
+        value: i64,
+    },
     /// Every leaf cell whose whole region lies in the box takes the value. The box holds the cells of
     /// `level` from `low` up to below `high`, by axis.
     FillBox {
@@ -34,9 +37,13 @@ pub enum Command {
         value: i64,
     },
     /// Prints the numbers of a variable.
-    PrintVar { group: Group },
+    PrintVar {
+        group: Group,
+    },
     /// Prints the total of a cell variable.
-    Total { var: u32 },
+    Total {
+        var: u32,
+    },
 }
 
 /// The lines that declare, by their first word.

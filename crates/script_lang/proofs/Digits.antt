@@ -1,13 +1,12 @@
 -- Numbers and names by their bytes.
-use Rattle.std.proofs.Common.{◌≡◌, ℕ, zero, suc, ◌+◌, ◌-◌, ◌*◌, ◌^◌, ◌<◌, ◌≤◌, Bool, true, false, ◌&&◌, List, [], ◌∷◌, length, get_or, slice_index, Option, Some, None, Result, Ok, Err, ℤ, pos, negsuc, neg_ℤ, unsigned_abs, nat_le, int_le, bytes_eq, codes, refl, sym, ap, ◌∙◌, arith}
+use Rattle.std.proofs.Common.{◌≡◌, ℕ, zero, suc, ◌^◌, ◌<◌, ◌≤◌, Bool, true, false, ◌&&◌, List, [], ◌∷◌, length, get_or, slice_index, Option, Some, None, Result, Ok, Err, ℤ, pos, negsuc, neg_ℤ, unsigned_abs, nat_le, int_le, bytes_eq, codes, refl, sym, ap, ◌∙◌, arith}
 use Rattle.std.proofs.lemmas.Bool.Decides.{nat_tests}
-use Rattle.std.proofs.lemmas.Int.{ints}
 use Rattle.std.specs.List.{list_all}
 use Rattle.std.specs.Str.{IsAscii}
 use Rattle.mesh_model.specs.declared.script.Reason.{Reason}
 use Rattle.mesh_model.specs.declared.script.Reason.TheVariants.{NotNumber, OutOfRange}
-use Rattle.mesh_model.specs.Words.{is_digit, is_positive, is_letter, is_name_byte, is_name, number_of, digits_value, after_minus}
-use Rattle.mesh_model.specs.Grammar.{check, found, number, count}
+use Rattle.mesh_model.specs.Words.{is_digit, is_positive, is_name_byte, is_name, number_of, digits_value, after_minus}
+use Rattle.mesh_model.specs.Grammar.{check, number, count}
 
 both : (a b : Bool) → (a && b) ≡ true → (a ≡ true) × (b ≡ true)
 both true b h = (refl, h)

@@ -25,7 +25,7 @@ use Rattle.amr_num.specs.declared.Axis.{Axis}
 use Rattle.amr_num.specs.declared.Axis.TheVariants.{X, Y, Z}
 use Rattle.mesh_model.specs.VariableNames.{VariableNames}
 use Rattle.mesh_model.specs.Words.{word, words_of, lines_of, number_of, is_name, is_passed_over}
-use Rattle.mesh_model.specs.Grammar.{Fault, Said, script_of, lines_say, line_of, says, acts, declares, command_of, placed, domain, cells, cellvar, fill, fill_all, fill_box, print, total, is_box, point, number, leaf_number, count, one_of, fixed, variable, cell_variable, cell_named, new_cell_name, is_taken, is_between, keyword_of, comes_again, is_domain, is_declaration, has_count, check, found, on_line, numbered, closed, at_start, ◌>>=◌}
+use Rattle.mesh_model.specs.Grammar.{Fault, Said, script_of, lines_say, line_of, says, acts, declares, command_of, placed, domain, cells, cellvar, fill, fill_all, fill_box, print, total, is_box, point, number, leaf_number, count, one_of, fixed, variable, cell_variable, new_cell_name, is_taken, is_between, keyword_of, comes_again, is_domain, is_declaration, has_count, check, found, on_line, numbered, closed, at_start, ◌>>=◌}
 
 -- where a step and what follows it gave a value, both did
 bound : {A B E : Type 0} (m : Result A E) (f : A → Result B E) (y : B) → (m >>= f) ≡ Ok y → (x : A) × (m ≡ Ok x) × (f x ≡ Ok y)

@@ -325,11 +325,7 @@ fn add_line(
 }
 
 /// Reads the lines, the first of which has the number 1.
-fn read_lines(
-    alloc: Global,
-    reading: &mut Reading,
-    lines: &[&[u8]],
-) -> Result<Vec<Line>, Halt>
+fn read_lines(alloc: Global, reading: &mut Reading, lines: &[&[u8]]) -> Result<Vec<Line>, Halt>
     requires few { length lines.now < 2 ^ 32 - 1 }
     requires narrow { IsNarrow reading.old.declared.shape }
     ensures says { IfOk result (λ read. grammar.lines_say reading.old 1 (texts lines.now) ≡ Ok (reading.new, read.items)) }
@@ -388,7 +384,9 @@ fn read(alloc: Global, bytes: &[u8]) -> Result<Script, Halt>
     let mut reading = at_start(alloc);
     let read = read_lines(alloc, &mut reading, &lines)?;
     let Reading {
-        declared, ended, ..
+        declared,
+        ended,
+        ..
     } = reading;
     if !ended {
         return Err(Halt::Fault {
@@ -423,7 +421,8 @@ mod tests {
     use std::process::Abort;
     use std::test::Fail;
 
-    const ACCEPTED: &[u8] = b"# a box\ndomain 2 1 1\n\ncells 4 1\r\ncellvar u\n\tcellvar v_2  \nfill u box 0 0 1 2 8 4 4 -7\nfill v_2 all 1099511627776\nprint u\ntotal v_2\nend\n#";
+    const ACCEPTED: &[u8] =
+        b"# a box\ndomain 2 1 1\n\ncells 4 1\r\ncellvar u\n\tcellvar v_2  \nfill u box 0 0 1 2 8 4 4 -7\nfill v_2 all 1099511627776\nprint u\ntotal v_2\nend\n#";
 
     #[test]
     fn accepted(rt: HostRuntime) -> Result<(), Fail> {
@@ -440,17 +439,41 @@ mod tests {
             high: [8, 4, 4],
             value: -7,
         };
-        assert_eq!(rt; script.lines[0], Line { number: 7, command: fill_box });
+        assert_eq!(rt;
+            script.lines[0],
+            Line {
+                number: 7,
+                command: fill_box
+            }
+        );
         let fill_all = Command::FillAll {
             var: 1,
             value: 1 << 40,
         };
-        assert_eq!(rt; script.lines[1], Line { number: 8, command: fill_all });
+        assert_eq!(rt;
+            script.lines[1],
+            Line {
+                number: 8,
+                command: fill_all
+            }
+        );
         let print = Command::PrintVar {
             group: Group::Cell(0),
         };
-        assert_eq!(rt; script.lines[2], Line { number: 9, command: print });
-        assert_eq!(rt; script.lines[3], Line { number: 10, command: Command::Total { var: 1 } });
+        assert_eq!(rt;
+            script.lines[2],
+            Line {
+                number: 9,
+                command: print
+            }
+        );
+        assert_eq!(rt;
+            script.lines[3],
+            Line {
+                number: 10,
+                command: Command::Total { var: 1 }
+            }
+        );
         Ok(())
     }
 
@@ -487,14 +510,42 @@ mod tests {
         let table: [(&[u8], u32, Reason); 10] = [
             (b"domain 1 1 1\ncells 5 2", 2, Reason::OutOfRange),
             (b"domain 1 1 1\ncellvar mesh", 2, Reason::BadName),
-            (b"domain 1 1 1\ncellvar abcdefghijklmnopq", 2, Reason::BadName),
+            (
+                b"domain 1 1 1\ncellvar abcdefghijklmnopq",
+                2,
+                Reason::BadName,
+            ),
             (b"domain 1 1 1\ncellvar u\ncellvar u", 3, Reason::NameTaken),
-            (b"domain 1 1 1\ncellvar a\ncellvar b\ncellvar c\ncellvar d\ncellvar e", 6, Reason::TooMany),
-            (b"domain 1 1 1\ncellvar u\ntotal u\ncells 4 1", 4, Reason::TooLate),
-            (b"domain 1 1 1\ncellvar u\nfill v any 1", 3, Reason::UnknownVariable),
-            (b"domain 1 1 1\ncellvar u\nfill u any 1", 3, Reason::UnknownWord),
-            (b"domain 1 1 1\ncellvar u\nfill u all 10995116277760000000000000", 3, Reason::OutOfRange),
-            (b"domain 1 1 1\ncellvar u\nfill u box 0 0 0 0 8 9 8 1", 3, Reason::BadBox),
+            (
+                b"domain 1 1 1\ncellvar a\ncellvar b\ncellvar c\ncellvar d\ncellvar e",
+                6,
+                Reason::TooMany,
+            ),
+            (
+                b"domain 1 1 1\ncellvar u\ntotal u\ncells 4 1",
+                4,
+                Reason::TooLate,
+            ),
+            (
+                b"domain 1 1 1\ncellvar u\nfill v any 1",
+                3,
+                Reason::UnknownVariable,
+            ),
+            (
+                b"domain 1 1 1\ncellvar u\nfill u any 1",
+                3,
+                Reason::UnknownWord,
+            ),
+            (
+                b"domain 1 1 1\ncellvar u\nfill u all 10995116277760000000000000",
+                3,
+                Reason::OutOfRange,
+            ),
+            (
+                b"domain 1 1 1\ncellvar u\nfill u box 0 0 0 0 8 9 8 1",
+                3,
+                Reason::BadBox,
+            ),
         ];
         for (text, line, reason) in table {
             refuses(&rt, rt.alloc(), text, line, reason);

@@ -1,4 +1,4 @@
-use Rattle.std.proofs.Common.{◌≡◌, [], bytes_eq, get_or, true, arith, sym, ap, ◌∙◌, below_more}
+use Rattle.std.proofs.Common.{◌≡◌, [], bytes_eq, get_or, true, arith, sym, below_more}
 use Rattle.std.proofs.lemmas.Grind.{common_steps}
 use Rattle.std.proofs.lemmas.Option.{gets}
 use Rattle.script_lang.proofs.Places.{position_is}
