@@ -1,8 +1,9 @@
 -- Which numbers the commands and declarations of an accepted script have, and the script as plain data.
-use Rattle.std.specs.Prelude.{ℕ, ◌<◌, ◌≤◌, ◌^◌, List, ℤ, length, slice_index, IsSome}
+use Rattle.std.specs.Prelude.{◌≡◌, ℕ, ◌<◌, ◌≤◌, ◌^◌, ◌⊎◌, List, ℤ, None, length, replicate, slice_index, IsSome}
 use Rattle.amr_num.specs.Numbers.{Within}
 use Rattle.amr_num.specs.declared.Axis.{Axis}
 use Rattle.amr_num.specs.declared.Axis.TheVariants.{X, Y, Z}
+use Rattle.amr_num.specs.declared.SideKind.TheVariants.{Periodic}
 use Rattle.mesh_model.specs.declared.Shape.{Shape}
 use Rattle.mesh_model.specs.declared.script.Command.{Command}
 use Rattle.mesh_model.specs.declared.script.Command.TheVariants.{FillAll, FillBox, PrintVar, Total}
@@ -57,3 +58,17 @@ IsCommandOf d (Total var) = IsCellVariable d.names var
 
 abbrev pub IsLineOf : Declared → Line → Type 0
 IsLineOf d line = IsCommandOf d line.command
+
+-- the declarations are within the limits of the language
+pub record InLimits (d : Declared) : Type 0 where
+  pub rx : (1 ≤ d.shape.rx) × (d.shape.rx ≤ 8)
+  pub ry : d.shape.ry ≡ 1
+  pub rz : d.shape.rz ≡ 1
+  pub n : (d.shape.n ≡ 4) ⊎ (d.shape.n ≡ 8)
+  pub g : (d.shape.g ≡ 1) ⊎ ((d.shape.g ≡ 2) ⊎ (d.shape.g ≡ 4))
+  pub min : d.shape.min ≡ 0
+  pub max : d.shape.max ≡ 3
+  pub sides : d.shape.sides ≡ replicate 6 Periodic
+  pub cells : length d.names.cells ≤ 4
+  pub face : d.names.face ≡ None
+  pub edge : d.names.edge ≡ None

@@ -23,3 +23,5 @@ pub mod Commands
 pub mod Fill
 pub mod Texts
 pub mod Run
+pub mod Words
+pub mod Grammar

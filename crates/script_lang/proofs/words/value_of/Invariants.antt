@@ -1,0 +1,7 @@
+use Rattle.std.proofs.Common.{◌≡◌, min, take}
+use Rattle.mesh_model.specs.Words.{digits_value}
+use Rattle.script_lang.specs.declared.words.TheConstants.{BEYOND}
+use Rattle.script_lang.proofs.words.value_of.Given as goal
+
+abbrev pub invariant-loop-d : goal.invariant-loop-d
+invariant-loop-d l = l.value ≡ min (digits_value (take l.d-index l.digits)) BEYOND

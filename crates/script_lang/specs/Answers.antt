@@ -1,0 +1,49 @@
+-- How the reader's answers stand for what the language says.
+use Rattle.std.specs.Prelude.{◌≡◌, ℕ, ◌≤◌, List, ◌++◌, map, Option, Result, Ok, Err}
+use denote.Ref.{Bor}
+use Rattle.mesh_model.specs.declared.Shape.{Shape}
+use Rattle.mesh_model.specs.declared.script.Reason.{Reason}
+use Rattle.mesh_model.specs.declared.script.Command.{Command}
+use Rattle.mesh_model.specs.declared.script.Line.{Line}
+use Rattle.mesh_model.specs.declared.script.Reading.{Reading}
+use Rattle.mesh_model.specs.Grammar as grammar
+use Rattle.mesh_model.specs.Grammar.{Said, numbered}
+use Rattle.script_lang.specs.declared.reader.Halt.{Halt}
+use Rattle.script_lang.specs.declared.reader.Halt.TheVariants as halt
+use Rattle.script_lang.specs.declared.reader.Stop.{Stop}
+use Rattle.script_lang.specs.declared.reader.Stop.TheVariants.{Fault, OutOfMemory}
+
+-- the bytes of the words
+abbrev pub texts : List (Bor (List ℕ)) → List (List ℕ)
+texts words = map (λ w. w.now) words
+
+-- a stop is the language's refusal, unless memory ran out
+abbrev pub Refuses : {A : Type 0} → Stop → Result A Reason → Type 0
+Refuses (Fault reason) said = said ≡ Err reason
+Refuses OutOfMemory said = Unit {0}
+
+-- the answer is what the language says
+abbrev pub Answers : {R A : Type 0} → (R → A) → Result R Stop → Result A Reason → Type 0
+Answers view (Ok x) said = said ≡ Ok (view x)
+Answers view (Err stop) said = Refuses stop said
+
+-- the line says this, its command has this number, and the commands after it are those before it with its own
+abbrev pub Adds : Result Said Reason → Reading → ℕ → List Line → List Line → Type 0
+Adds said after n before lines = (c : Option Command) × (said ≡ Ok (after, c)) × (lines ≡ before ++ numbered n c)
+
+-- a halt is the language's refusal of line n, unless memory ran out
+abbrev pub Stopped : Halt → ℕ → Result Said Reason → Type 0
+Stopped (halt.Fault line reason) n said = (line ≡ n) × (said ≡ Err reason)
+Stopped halt.OutOfMemory n said = Unit {0}
+
+-- a halt is the fault that the language gives, unless memory ran out
+abbrev pub Halts : {A : Type 0} → Halt → Result A grammar.Fault → Type 0
+Halts (halt.Fault line reason) said = said ≡ Err (record { line = line; reason = reason })
+Halts halt.OutOfMemory said = Unit {0}
+
+-- no axis has more than eight roots, nor a root more than eight cells
+pub record IsNarrow (s : Shape) : Type 0 where
+  pub n : s.n ≤ 8
+  pub rx : s.rx ≤ 8
+  pub ry : s.ry ≤ 8
+  pub rz : s.rz ≤ 8

@@ -1,0 +1,221 @@
+// The words of a script: lines, words, numbers and names.
+ghost use Rattle.std.specs.Prelude.{◌≡◌, ℕ, ◌^◌, ◌≤◌, min, map, true, IfOk, nat_le, pos, neg_ℤ, unsigned_abs, int_le, ◌&&◌};
+ghost use Rattle.mesh_model.specs.declared.script.Reason.TheVariants.{OutOfRange};
+ghost use Rattle.std.specs.List.{list_all};
+ghost use Rattle.mesh_model.specs.Words as plain;
+ghost use Rattle.mesh_model.specs.Grammar as grammar;
+
+use mesh_model::script::Reason;
+use std::alloc::{AllocError, Global};
+
+/// The lines of a script: what stands before, between and after its LF bytes.
+#[tactic(auto, unfolding(mesh_model::specs::Words::lines_of))]
+pub fn lines_of(alloc: Global, bytes: &[u8]) -> Result<Vec<&[u8]>, AllocError>
+    ensures { IfOk result (λ v. map (λ x. x.now) v.items ≡ plain.lines_of bytes.now) }
+{
+    bytes.split(|b| *b == b'\n').collect(alloc)
+}
+
+fn is_gap(b: u8) -> bool
+    ensures { result ≡ plain.is_gap b }
+{
+    b == b' ' || b == b'\t' || b == b'\r'
+}
+
+fn is_filled(word: &[u8]) -> bool
+    ensures { result ≡ plain.is_filled word.now }
+{
+    !word.is_empty()
+}
+
+/// The words of a line: what stands between its spaces, tabs and CRs.
+#[tactic(auto, unfolding(mesh_model::specs::Words::words_of))]
+pub fn words_of(alloc: Global, line: &[u8]) -> Result<Vec<&[u8]>, AllocError>
+    ensures { IfOk result (λ v. map (λ x. x.now) v.items ≡ plain.words_of line.now) }
+{
+    line.split(|b| is_gap(*b))
+        .filter(|word| is_filled(word))
+        .collect(alloc)
+}
+
+fn is_digit(b: u8) -> bool
+    ensures { result ≡ plain.is_digit b }
+{
+    b >= b'0' && b <= b'9'
+}
+
+fn all_digits(bytes: &[u8]) -> bool
+    ensures { result ≡ list_all plain.is_digit bytes.now }
+{
+    bytes.iter().all(|b| is_digit(*b))
+}
+
+/// Whether the word is a digit 1 to 9, and then digits.
+fn is_positive(word: &[u8]) -> bool
+    ensures { result ≡ plain.is_positive word.now }
+{
+    match word.split_first() {
+        Some((first, rest)) => *first >= b'1' && *first <= b'9' && all_digits(rest),
+        None => false,
+    }
+}
+
+/// More than any number of a script may be.
+const BEYOND: u64 = 1 << 41;
+
+/// The value of the digits, or `BEYOND` where it is greater.
+fn value_of(digits: &[u8]) -> u64
+    requires { plain.is_positive digits.now ≡ true }
+    ensures { result ≡ min (plain.digits_value digits.now) BEYOND }
+{
+    let mut value: u64 = 0;
+    for d in digits {
+        value = (10 * value + (*d - b'0') as u64).min(BEYOND);
+    }
+    value
+}
+
+/// The value of the digits, where it is at most `most`.
+fn size_of(digits: &[u8], most: u64) -> Result<i64, Reason>
+    requires positive { plain.is_positive digits.now ≡ true }
+    requires most { most ≤ 2 ^ 40 }
+    ensures value { result ≡ grammar.check (nat_le (plain.digits_value digits.now) most) OutOfRange (pos (plain.digits_value digits.now)) }
+    ensures small { IfOk result (λ z. unsigned_abs z ≤ 2 ^ 40) }
+{
+    let value = value_of(digits);
+    if value > most {
+        return Err(Reason::OutOfRange);
+    }
+    Ok(value as i64)
+}
+
+/// The same with a minus.
+fn negative(digits: &[u8], most: u64) -> Result<i64, Reason>
+    requires positive { plain.is_positive digits.now ≡ true }
+    requires most { most ≤ 2 ^ 40 }
+    ensures { result ≡ grammar.check (nat_le (plain.digits_value digits.now) most) OutOfRange (neg_ℤ (pos (plain.digits_value digits.now))) }
+{
+    let value = value_of(digits);
+    if value > most {
+        return Err(Reason::OutOfRange);
+    }
+    Ok(-(value as i64))
+}
+
+/// The digits after a minus.
+fn after_minus(word: &[u8]) -> &[u8]
+    ensures { result.now ≡ plain.after_minus word.now }
+{
+    if !word.is_empty() && word[0] == b'-' {
+        &word[1..]
+    } else {
+        &[]
+    }
+}
+
+/// The number that the word is, of absolute value at most `most`: `NotNumber` or `OutOfRange` where it
+/// is none.
+pub fn number(word: &[u8], most: u64) -> Result<i64, Reason>
+    requires { most ≤ 2 ^ 40 }
+    ensures { result ≡ grammar.number most word.now }
+{
+    if word == b"0".as_slice() {
+        return Ok(0);
+    }
+    if is_positive(word) {
+        return size_of(word, most);
+    }
+    let digits = after_minus(word);
+    if is_positive(digits) {
+        return negative(digits, most);
+    }
+    Err(Reason::NotNumber)
+}
+
+/// The value, where it lies from `low` to `high`.
+fn in_range(value: i64, low: u32, high: u32) -> Result<u32, Reason>
+    ensures value { result ≡ grammar.check (int_le (pos low) value && int_le value (pos high)) OutOfRange (unsigned_abs value) }
+    ensures range { IfOk result (λ n. (low ≤ n) × (n ≤ high)) }
+{
+    if value < low as i64 || value > high as i64 {
+        return Err(Reason::OutOfRange);
+    }
+    Ok(value as u32)
+}
+
+/// The number from `low` to `high` that the word is.
+pub fn count(word: &[u8], low: u32, high: u32) -> Result<u32, Reason>
+    ensures value { result ≡ grammar.count low high word.now }
+    ensures range { IfOk result (λ n. (low ≤ n) × (n ≤ high)) }
+{
+    let value = number(word, 1 << 40)?;
+    in_range(value, low, high)
+}
+
+/// The one of these numbers, at most 8, that the word is.
+#[tactic(auto, unfolding(mesh_model::specs::Grammar::one_of))]
+pub fn one_of(word: &[u8], numbers: &[u32]) -> Result<u32, Reason>
+    ensures value { result ≡ grammar.one_of numbers.now word.now }
+    ensures range { IfOk result (λ n. n ≤ 8) }
+{
+    let value = count(word, 0, 8)?;
+    if numbers.contains(&value) {
+        Ok(value)
+    } else {
+        Err(Reason::OutOfRange)
+    }
+}
+
+/// `UnknownWord` where the word is not this text.
+#[tactic(auto, unfolding(mesh_model::specs::Grammar::fixed))]
+pub fn fixed(word: &[u8], text: &[u8]) -> Result<(), Reason>
+    ensures { result ≡ grammar.fixed text.now word.now }
+{
+    if word == text {
+        Ok(())
+    } else {
+        Err(Reason::UnknownWord)
+    }
+}
+
+fn is_reserved(word: &[u8]) -> bool
+    ensures { result ≡ plain.is_reserved word.now }
+{
+    word == b"mesh".as_slice()
+        || word == b"tree".as_slice()
+        || word == b"size".as_slice()
+        || word == b"guards".as_slice()
+        || word == b"ranks".as_slice()
+        || word == b"trace".as_slice()
+}
+
+fn is_letter(b: u8) -> bool
+    ensures { result ≡ plain.is_letter b }
+{
+    b >= b'a' && b <= b'z'
+}
+
+fn is_name_byte(b: u8) -> bool
+    ensures { result ≡ plain.is_name_byte b }
+{
+    is_letter(b) || is_digit(b) || b == b'_'
+}
+
+fn all_name_bytes(bytes: &[u8]) -> bool
+    ensures { result ≡ list_all plain.is_name_byte bytes.now }
+{
+    bytes.iter().all(|b| is_name_byte(*b))
+}
+
+/// Whether the word is a name: 1 to 16 bytes, a letter a to z and then such letters, digits and `_`,
+/// and not reserved.
+#[tactic(auto, unfolding(mesh_model::specs::Words::is_name))]
+pub fn is_name(word: &[u8]) -> bool
+    ensures { result ≡ plain.is_name word.now }
+{
+    word.len() >= 1
+        && word.len() <= 16
+        && is_letter(word[0])
+        && all_name_bytes(word)
+        && !is_reserved(word)
+}
