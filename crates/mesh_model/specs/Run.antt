@@ -48,3 +48,8 @@ Fills (Total var) v = ⊥
 -- the total of a variable and what has flowed out of it are together what they were, unless the command filled it
 abbrev pub KeepsTotals : Mesh → Command → Mesh → Type 0
 KeepsTotals before command after = (v : ℕ) → ¬ Fills command v → total after.grid (after.cells v) +ℤ after.outs v ≡ total before.grid (before.cells v) +ℤ before.outs v
+
+-- the mesh after the commands, in order
+abbrev pub mesh_of : Mesh → List Line → Mesh
+mesh_of m [] = m
+mesh_of m (line ∷ lines) = mesh_of (mesh_after m line.command) lines

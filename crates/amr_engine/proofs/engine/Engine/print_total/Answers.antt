@@ -1,4 +1,4 @@
-use Rattle.std.proofs.Common.{◌≡◌, List, ℕ, ℤ, pos, [], ◌∷◌, get_or, length, subst, sym, ap, ◌∙◌, rules}
+use Rattle.std.proofs.Common.{◌≡◌, List, ℕ, ℤ, pos, [], ◌∷◌, get_or, length, subst, sym, ap, ◌∙◌, rules, to_z, of_z}
 use Rattle.std.specs.Int.{w128}
 use Rattle.std.proofs.lemmas.Int.{to_z-of_z}
 use Rattle.std.specs.Fmt.{signed_decimal}
@@ -26,4 +26,4 @@ returns-clause-printed g c =
     let fits : SFits w128 c.total-total.result = search rules in
     let list = contents_are self.declared self.contents.items c.args.var c.index.result.now c.deref.result.now self.uniform c.requires c.index.ensures c.deref.ensures.value in
     let total = to_z-of_z w128 c.total-total.result fits ∙ c.total-total.ensures ∙ ap (λ xs. sum_over (block_sum self.declared.shape.n (content_in self.declared.shape xs)) (start_leaves self.declared.shape)) (sym list) ∙ sym (total_shown self.declared (contents_in self.contents.items) c.args.var self.uniform.shape) in
-    subst (told (get_or self.declared.names.cells c.args.var [])) total (subst (λ name. told name _) (name_at self.declared.names.cells c.args.var c.cell.result.now c.cell.ensures.name) c.print_total.ensures)
+    subst (told (get_or self.declared.names.cells c.args.var [])) total (subst (λ name. told name (to_z w128 (of_z w128 c.total-total.result))) (name_at self.declared.names.cells c.args.var c.cell.result.now c.cell.ensures.name) c.print_total.ensures)
