@@ -1,5 +1,5 @@
 -- Numbers and names by their bytes.
-use Rattle.std.proofs.Common.{◌≡◌, ℕ, zero, suc, ◌^◌, ◌<◌, ◌≤◌, Bool, true, false, ◌&&◌, List, [], ◌∷◌, length, get_or, slice_index, Option, Some, None, Result, Ok, Err, ℤ, pos, negsuc, neg_ℤ, unsigned_abs, nat_le, int_le, bytes_eq, codes, refl, sym, ap, ◌∙◌, arith}
+use Rattle.std.proofs.Common.{leb-true, ◌≡◌, ℕ, zero, suc, ◌^◌, ◌<◌, ◌≤◌, Bool, true, false, ◌&&◌, List, [], ◌∷◌, length, get_or, slice_index, Option, Some, None, Result, Ok, Err, ℤ, pos, negsuc, neg_ℤ, unsigned_abs, nat_le, int_le, bytes_eq, codes, refl, sym, ap, ◌∙◌, arith}
 use Rattle.std.proofs.lemmas.Bool.Decides.{nat_tests}
 use Rattle.std.specs.List.{list_all}
 use Rattle.std.specs.Str.{IsAscii}
@@ -38,6 +38,10 @@ all_ascii (x ∷ xs) h (suc i) = all_ascii xs (both (is_name_byte x) _ h).1 i
 pub name_is_ascii : (w : List ℕ) → is_name w ≡ true → IsAscii w
 unfolding is_name
 name_is_ascii w h = all_ascii w (both _ _ (both _ _ h).0).1
+
+pub name_is_short : (w : List ℕ) → is_name w ≡ true → length w ≤ 16
+unfolding is_name
+name_is_short w h = leb-true (length w) 16 (both _ _ (both _ _ (both _ _ (both _ _ h).0).0).0).1
 
 same_size : (z : ℤ) → unsigned_abs (neg_ℤ z) ≡ unsigned_abs z
 same_size (pos zero) = refl

@@ -1,5 +1,6 @@
 // The words of each command, from left to right.
 ghost use Rattle.std.specs.Prelude.{◌≡◌, ℕ, ◌+◌, ◌*◌, ◌^◌, ◌<◌, ◌≤◌, ◌⊎◌, true, Ok, Err, length, MatchResult, IfOk, OnOk};
+ghost use Rattle.mesh_model.specs.declared.names.TheConstants.{NAME_LENGTH};
 ghost use Rattle.mesh_model.specs.Grammar as grammar;
 ghost use Rattle.mesh_model.specs.Words.{is_name, word};
 ghost use Rattle.script_lang.specs.Answers.{texts, IsNarrow};
@@ -47,7 +48,8 @@ fn variable(names: &Names, word: &[u8]) -> Result<Group, Reason>
 /// The name as text.
 fn text_of(name: &[u8]) -> &str
     requires { is_name name.now ≡ true }
-    ensures { result.now ≡ name.now }
+    ensures text { result.now ≡ name.now }
+    ensures short { length result.now ≤ NAME_LENGTH }
 {
     match str::from_utf8(name) {
         Ok(text) => text,
@@ -60,6 +62,7 @@ fn text_of(name: &[u8]) -> &str
 fn new_cell_name<'a>(names: &Names, word: &'a [u8]) -> Result<&'a str, Reason>
     ensures name { MatchResult result (λ s. grammar.new_cell_name names.now word.now ≡ Ok s.now) (λ e. grammar.new_cell_name names.now word.now ≡ Err e) }
     ensures room { OnOk result (length names.now.cells < 4) }
+    ensures short { IfOk result (λ s. length s.now ≤ NAME_LENGTH) }
 {
     if !is_name(word) {
         return Err(Reason::BadName);
@@ -110,6 +113,7 @@ pub fn cellvar<'a>(names: &Names, words: &[&'a [u8]]) -> Result<&'a str, Reason>
     requires { length words.now ≡ 2 }
     ensures name { MatchResult result (λ s. grammar.new_cell_name names.now (word (texts words.now) 1) ≡ Ok s.now) (λ e. grammar.new_cell_name names.now (word (texts words.now) 1) ≡ Err e) }
     ensures room { OnOk result (length names.now.cells < 4) }
+    ensures short { IfOk result (λ s. length s.now ≤ NAME_LENGTH) }
 {
     new_cell_name(names, word(words, 1))
 }
