@@ -32,7 +32,8 @@ pub enum ReadStop {
 /// How many bytes are asked of a source at a time.
 const CHUNK: usize = 4096;
 
-/// Reads up to the end of the source, or up to `limit` bytes.
+/// Reads up to the end of the source, or up to `limit` bytes. The memory for them is taken first, so that where
+/// it is refused nothing was read.
 pub fn read_up_to<S: Source>(
     alloc: Global,
     source: &mut S,
@@ -41,9 +42,12 @@ pub fn read_up_to<S: Source>(
     ensures bytes { IfOk result (λ read. IfSome (S.left source.old) (λ bytes. (read.items ≡ take limit bytes) × (S.left source.new ≡ Some (drop limit bytes)))) }
     ensures calm { OnOk result (S.faults source.new ≡ S.faults source.old) }
     ensures fault { result ≡ Err ReadStop.Failed → Rose (S.faults source.old) (S.faults source.new) }
-    ensures memory { result ≡ Err ReadStop.OutOfMemory → S.faults source.new ≡ S.faults source.old }
+    ensures memory { result ≡ Err ReadStop.OutOfMemory → source.new ≡ source.old }
 {
-    let mut read = Vec::new(alloc);
+    let mut read = match Vec::with_capacity(alloc, limit) {
+        Ok(read) => read,
+        Err(_) => return Err(ReadStop::OutOfMemory),
+    };
     while read.len() < limit {
         let mut buf = [0u8; CHUNK];
         let room = if limit - read.len() < CHUNK {
@@ -54,12 +58,32 @@ pub fn read_up_to<S: Source>(
         match source.read(&mut buf[..room]) {
             Ok(0) => return Ok(read),
             Ok(n) => {
-                if read.extend_from_slice(&buf[..n]).is_err() {
-                    return Err(ReadStop::OutOfMemory);
-                }
+                let _ = read.extend_from_slice(&buf[..n]);
             }
             Err(Failed) => return Err(ReadStop::Failed),
         }
     }
     Ok(read)
+}
+
+/// Passes over the bytes up to the end of the source, or over `limit` bytes.
+pub fn skip_up_to<S: Source>(source: &mut S, limit: usize) -> Result<(), Failed>
+    ensures bytes { OnOk result (IfSome (S.left source.old) (λ bytes. S.left source.new ≡ Some (drop limit bytes))) }
+    ensures calm { OnOk result (S.faults source.new ≡ S.faults source.old) }
+    ensures fault { OnErr result (Rose (S.faults source.old) (S.faults source.new)) }
+{
+    let mut skipped = 0;
+    while skipped < limit {
+        let mut buf = [0u8; CHUNK];
+        let room = if limit - skipped < CHUNK {
+            limit - skipped
+        } else {
+            CHUNK
+        };
+        match source.read(&mut buf[..room])? {
+            0 => return Ok(()),
+            n => skipped += n,
+        }
+    }
+    Ok(())
 }

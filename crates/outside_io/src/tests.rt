@@ -5,7 +5,7 @@ use crate::memory_disk::MemDisk;
 use crate::memory_sink::MemSink;
 use crate::memory_source::MemSource;
 use crate::sink::write_all;
-use crate::source::{ReadStop, Source, read_up_to};
+use crate::source::{ReadStop, Source, read_up_to, skip_up_to};
 use crate::std_sink::StdSink;
 use crate::std_source::StdSource;
 use std::fs;
@@ -13,12 +13,13 @@ use std::test::Fail;
 
 #[test]
 fn reads_a_few_bytes_at_a_time(rt: HostRuntime) -> Result<(), Fail> {
-    let bytes = [10, 20, 30, 40, 50].to_vec(rt.alloc())?;
-    let mut source = MemSource::new(bytes, 2, [5].to_vec(rt.alloc())?);
+    let bytes = [10, 20, 30, 40, 50, 60, 70].to_vec(rt.alloc())?;
+    let mut source = MemSource::new(bytes, 2, [6].to_vec(rt.alloc())?);
     let read = read_up_to(rt.alloc(), &mut source, 4)?;
     assert_eq!(rt; read.as_slice(), [10, 20, 30, 40].as_slice());
+    assert_eq!(rt; skip_up_to(&mut source, 2), Ok(()));
     let read = read_up_to(rt.alloc(), &mut source, 4)?;
-    assert_eq!(rt; read.as_slice(), [50].as_slice());
+    assert_eq!(rt; read.as_slice(), [70].as_slice());
     assert_eq!(rt; source.faults(), 0);
     let stop = read_up_to(rt.alloc(), &mut source, 4);
     assert_eq!(rt; stop.err(), Some(ReadStop::Failed));
