@@ -7,6 +7,7 @@ pub mod coordinates;
 pub mod laws;
 pub mod names;
 mod outside;
+pub mod run;
 pub mod script;
 mod touch;
 pub mod values;

@@ -1,0 +1,198 @@
+-- What the clauses of the program say follows from how its run ended.
+use Rattle.std.proofs.Common.{◌≡◌, ◌≢◌, ℕ, ◌<◌, ◌++◌, ◌⊎◌, List, [], ◌∷◌, Option, Some, None, Result, Ok, Err, inl, inr, refl, sym, ap, subst, ◌∙◌, arith, IfSome, take, drop, map}
+use Rattle.mesh_model.specs.Commands.{PlainScript}
+use Rattle.mesh_model.specs.Grammar.{Fault, script_of}
+use Rattle.outside_io.specs.Moved.{Rose, Takes, TakesPrefix}
+use Rattle.amr_program.specs.declared.status.Status.{Status}
+use Rattle.amr_program.specs.declared.status.Status.TheVariants as status
+use Rattle.amr_program.specs.declared.program.TheConstants.{LIMIT}
+use Rattle.amr_program.specs.Answer.{Answer, IsAccepted, IsAnswer, IsRefused, MayPrint, TookBeforeMemory, TookPart, answer_of, first_texts, plain_answer, script_in}
+use Rattle.amr_program.specs.Lines.{memory_line, read_line, words_line}
+use Rattle.amr_program.specs.Outcome.{Answered, Came, ByMemory, ByRead, ByScript, ByWords, Ended, Failed, Outcome, Source, Starved, Written, Wrote, WrotePart}
+
+-- ---- facts of a value that may be there
+
+always : {A : Type 0} (o : Option A) (P : A → Type 0) → ((x : A) → P x) → IfSome o P
+always None P h = tt
+always (Some x) P h = h x
+
+carried : {A : Type 0} (o : Option A) (P Q : A → Type 0) → IfSome o P → ((x : A) → P x → Q x) → IfSome o Q
+carried None P Q h f = tt
+carried (Some x) P Q h f = f x h
+
+-- where the texts of the words are none, so are the words
+pub no_words : {A : Type 0} (text : A → List ℕ) (words : List A) → map text words ≡ [] → words ≡ []
+no_words text [] e = refl
+no_words text (word ∷ words) e = cc
+
+-- ---- statuses
+
+-- an answer is Done or Script
+answer_status : (read : Result PlainScript Fault) → ((answer_of read).status ≡ status.Done) ⊎ ((answer_of read).status ≡ status.Script)
+answer_status (Ok s) = inl refl
+answer_status (Err f) = inr refl
+
+refused_read : (read : Result PlainScript Fault) → (answer_of read).status ≡ status.Script → IsRefused read
+refused_read (Ok s) e = (let odd : status.Done ≡ status.Script = e in cc)
+refused_read (Err f) e = tt
+
+accepted_read : (read : Result PlainScript Fault) → IsAccepted read → (answer_of read).status ≡ status.Done
+accepted_read (Ok s) h = refl
+accepted_read (Err f) h = absurd h
+
+words_answer : (words : List (List ℕ)) (all : List ℕ) (result : Status) (w : Written) → words ≢ [] → result ≡ status.Words → Takes w.before words_line w.after → IsAnswer (plain_answer words all) result w.before w.after
+words_answer [] all result w some e takes = absurd (some refl)
+words_answer (word ∷ words) all result w some e takes = record { status_is = e; text_is = takes }
+
+words_text : (words : List (List ℕ)) (all : List ℕ) → words ≢ [] → (plain_answer words all).text ≡ words_line
+words_text [] all some = absurd (some refl)
+words_text (word ∷ words) all some = refl
+
+module _ (words : List (List ℕ)) (result : Status) (s : Source) (w : Written) where
+  pub answer : Outcome words result s w → ¬ Rose s.faults s.new_faults → ¬ Rose w.faults w.new_faults → result ≢ status.OutOfMemory → IfSome s.before (λ bytes. IsAnswer (plain_answer words bytes) result w.before w.after)
+  answer (inl o) quiet calm fed = elim o.ended [
+    | inl e ↦ always s.before _ (λ all. words_answer words all result w o.some e.0 e.1.takes)
+    | inr e ↦ absurd (calm e.1.rose)
+  ]
+  answer (inr (inl o)) quiet calm fed = absurd (quiet o.rose)
+  answer (inr (inr (inl o))) quiet calm fed = elim o.ended [
+    | inl e ↦ absurd (fed e.0)
+    | inr e ↦ absurd (calm e.1.rose)
+  ]
+  answer (inr (inr (inr o))) quiet calm fed = elim o.came [
+    | inl a ↦ carried s.before _ _ o.left (λ all h. subst (λ ws. IsAnswer (plain_answer ws all) result w.before w.after) (sym o.none) (subst (λ b. IsAnswer (answer_of (script_of b)) result w.before w.after) h.0 (record { status_is = a.status_is; text_is = a.wrote.takes })))
+    | inr other ↦ elim other [ inl a ↦ absurd (fed a.status_is) | inr a ↦ absurd (calm a.wrote.rose) ]
+  ]
+
+  pub words_refused : Outcome words result s w → result ≡ status.Words → words ≢ []
+  words_refused (inl o) is = o.some
+  words_refused (inr (inl o)) is = elim o.ended [ inl e ↦ absurd (cc e.0) | inr e ↦ absurd (cc e.0) ]
+  words_refused (inr (inr (inl o))) is = elim o.ended [ inl e ↦ absurd (cc e.0) | inr e ↦ absurd (cc e.0) ]
+  words_refused (inr (inr (inr o))) is = elim o.came [
+    | inl a ↦ elim (answer_status (script_of o.bytes)) [ inl e ↦ absurd (cc (a.status_is, e)) | inr e ↦ absurd (cc (a.status_is, e)) ]
+    | inr other ↦ elim other [ inl a ↦ absurd (cc a.status_is) | inr a ↦ absurd (cc a.status_is) ]
+  ]
+
+  pub words_alone : Outcome words result s w → words ≢ [] → (result ≡ status.Words) ⊎ (result ≡ status.WriteFault)
+  words_alone (inl o) some = elim o.ended [ inl e ↦ inl e.0 | inr e ↦ inr e.0 ]
+  words_alone (inr (inl o)) some = absurd (some o.none)
+  words_alone (inr (inr (inl o))) some = absurd (some o.none)
+  words_alone (inr (inr (inr o))) some = absurd (some o.none)
+
+  pub script_refused : Outcome words result s w → result ≡ status.Script → (words ≡ []) × IfSome s.before (λ bytes. IsRefused (script_in bytes))
+  script_refused (inl o) is = elim o.ended [ inl e ↦ absurd (cc e.0) | inr e ↦ absurd (cc e.0) ]
+  script_refused (inr (inl o)) is = elim o.ended [ inl e ↦ absurd (cc e.0) | inr e ↦ absurd (cc e.0) ]
+  script_refused (inr (inr (inl o))) is = elim o.ended [ inl e ↦ absurd (cc e.0) | inr e ↦ absurd (cc e.0) ]
+  script_refused (inr (inr (inr o))) is = elim o.came [
+    | inl a ↦ (o.none, carried s.before _ _ o.left (λ all h. subst (λ b. IsRefused (script_of b)) h.0 (refused_read (script_of o.bytes) (sym a.status_is ∙ is))))
+    | inr other ↦ elim other [ inl a ↦ absurd (cc a.status_is) | inr a ↦ absurd (cc a.status_is) ]
+  ]
+
+  pub read_fault : Outcome words result s w → result ≡ status.ReadFault → Rose s.faults s.new_faults
+  read_fault (inl o) is = elim o.ended [ inl e ↦ absurd (cc e.0) | inr e ↦ absurd (cc e.0) ]
+  read_fault (inr (inl o)) is = o.rose
+  read_fault (inr (inr (inl o))) is = elim o.ended [ inl e ↦ absurd (cc e.0) | inr e ↦ absurd (cc e.0) ]
+  read_fault (inr (inr (inr o))) is = elim o.came [
+    | inl a ↦ elim (answer_status (script_of o.bytes)) [ inl e ↦ absurd (cc (a.status_is, e)) | inr e ↦ absurd (cc (a.status_is, e)) ]
+    | inr other ↦ elim other [ inl a ↦ absurd (cc a.status_is) | inr a ↦ absurd (cc a.status_is) ]
+  ]
+
+  pub read_fault_told : Outcome words result s w → s.faults < s.new_faults → ¬ Rose w.faults w.new_faults → (result ≡ status.ReadFault) × Takes w.before read_line w.after
+  read_fault_told (inl o) more calm = let same = o.calm in absurd (omega arith)
+  read_fault_told (inr (inl o)) more calm = elim o.ended [ inl e ↦ (e.0, e.1.takes) | inr e ↦ absurd (calm e.1.rose) ]
+  read_fault_told (inr (inr (inl o))) more calm = let same = o.calm in absurd (omega arith)
+  read_fault_told (inr (inr (inr o))) more calm = let same = o.calm in absurd (omega arith)
+
+  pub write_fault : Outcome words result s w → result ≡ status.WriteFault → Rose w.faults w.new_faults
+  write_fault (inl o) is = elim o.ended [ inl e ↦ absurd (cc e.0) | inr e ↦ e.1.rose ]
+  write_fault (inr (inl o)) is = elim o.ended [ inl e ↦ absurd (cc e.0) | inr e ↦ e.1.rose ]
+  write_fault (inr (inr (inl o))) is = elim o.ended [ inl e ↦ absurd (cc e.0) | inr e ↦ e.1.rose ]
+  write_fault (inr (inr (inr o))) is = elim o.came [
+    | inl a ↦ elim (answer_status (script_of o.bytes)) [ inl e ↦ absurd (cc (a.status_is, e)) | inr e ↦ absurd (cc (a.status_is, e)) ]
+    | inr other ↦ elim other [ inl a ↦ absurd (cc a.status_is) | inr a ↦ a.wrote.rose ]
+  ]
+
+  ended_told : (ends : Status) (line : List ℕ) → Ended ends line result w → w.faults < w.new_faults → result ≡ status.WriteFault
+  ended_told ends line (inl e) more = let same = e.1.calm in absurd (omega arith)
+  ended_told ends line (inr e) more = e.0
+
+  pub write_fault_told : Outcome words result s w → w.faults < w.new_faults → result ≡ status.WriteFault
+  write_fault_told (inl o) more = ended_told _ _ o.ended more
+  write_fault_told (inr (inl o)) more = ended_told _ _ o.ended more
+  write_fault_told (inr (inr (inl o))) more = ended_told _ _ o.ended more
+  write_fault_told (inr (inr (inr o))) more = elim o.came [
+    | inl a ↦ (let same = a.wrote.calm in absurd (omega arith))
+    | inr other ↦ elim other [ inl a ↦ (let same = a.wrote.calm in absurd (omega arith)) | inr a ↦ a.status_is ]
+  ]
+
+  pub complete : Outcome words result s w → words ≡ [] → ¬ Rose s.faults s.new_faults → ¬ Rose w.faults w.new_faults → IfSome s.before (λ bytes. IsAccepted (script_in bytes) → (result ≡ status.Done) ⊎ (result ≡ status.OutOfMemory))
+  complete (inl o) none quiet calm = absurd (o.some none)
+  complete (inr (inl o)) none quiet calm = absurd (quiet o.rose)
+  complete (inr (inr (inl o))) none quiet calm = elim o.ended [
+    | inl e ↦ always s.before _ (λ all accepted. inr e.0)
+    | inr e ↦ absurd (calm e.1.rose)
+  ]
+  complete (inr (inr (inr o))) none quiet calm = elim o.came [
+    | inl a ↦ carried s.before _ _ o.left (λ all h accepted. inl (a.status_is ∙ accepted_read (script_of o.bytes) (subst (λ b. IsAccepted (script_of b)) (sym h.0) accepted)))
+    | inr other ↦ elim other [ inl a ↦ always s.before _ (λ all accepted. inr a.status_is) | inr a ↦ absurd (calm a.wrote.rose) ]
+  ]
+
+  -- the line that a run ends with was written in part
+  line_part : (line : List ℕ) → WrotePart line w → (all : List ℕ) → MayPrint words all line → TookPart words all w.before w.after
+  line_part line e all may = (line, may, e.takes)
+
+  pub part : Outcome words result s w → result ≡ status.WriteFault → IfSome s.before (λ bytes. TookPart words bytes w.before w.after)
+  part (inl o) is = elim o.ended [
+    | inl e ↦ absurd (cc e.0)
+    | inr e ↦ always s.before _ (λ all. line_part words_line e.1 all (inl (sym (words_text words all o.some))))
+  ]
+  part (inr (inl o)) is = elim o.ended [
+    | inl e ↦ absurd (cc e.0)
+    | inr e ↦ always s.before _ (λ all. line_part read_line e.1 all (inr (inl refl)))
+  ]
+  part (inr (inr (inl o))) is = elim o.ended [
+    | inl e ↦ absurd (cc e.0)
+    | inr e ↦ always s.before _ (λ all. line_part memory_line e.1 all (inr (inr (0, no_texts (script_in all)))))
+  ]
+    where
+      no_texts : (read : Result PlainScript Fault) → memory_line ≡ first_texts read 0 ++ memory_line
+      no_texts (Ok script) = refl
+      no_texts (Err fault) = refl
+  part (inr (inr (inr o))) is = elim o.came [
+    | inl a ↦ elim (answer_status (script_of o.bytes)) [ inl e ↦ absurd (cc (a.status_is, e)) | inr e ↦ absurd (cc (a.status_is, e)) ]
+    | inr other ↦ elim other [
+      | inl a ↦ absurd (cc a.status_is)
+      | inr a ↦ carried s.before _ _ o.left (λ all h. (a.text, subst (λ ws. MayPrint ws all a.text) (sym o.none) (may a all h.0), a.wrote.takes))
+    ]
+  ]
+    where
+      may : (a : Failed (script_of o.bytes) result w) (all : List ℕ) → o.bytes ≡ take LIMIT all → MayPrint [] all a.text
+      may a all e = elim a.text_is [
+        | inl t ↦ inl (t ∙ ap (λ b. (answer_of (script_of b)).text) e)
+        | inr t ↦ inr (inr (t.0, t.1 ∙ ap (λ b. first_texts (script_of b) t.0 ++ memory_line) e))
+      ]
+
+  pub memory : Outcome words result s w → result ≡ status.OutOfMemory → IfSome s.before (λ bytes. TookBeforeMemory bytes w.before w.after)
+  memory (inl o) is = elim o.ended [ inl e ↦ absurd (cc e.0) | inr e ↦ absurd (cc e.0) ]
+  memory (inr (inl o)) is = elim o.ended [ inl e ↦ absurd (cc e.0) | inr e ↦ absurd (cc e.0) ]
+  memory (inr (inr (inl o))) is = elim o.ended [
+    | inl e ↦ always s.before _ (λ all. (0, subst (λ t. Takes w.before t w.after) (no_texts (script_in all)) e.1.takes))
+    | inr e ↦ absurd (cc e.0)
+  ]
+    where
+      no_texts : (read : Result PlainScript Fault) → memory_line ≡ first_texts read 0 ++ memory_line
+      no_texts (Ok script) = refl
+      no_texts (Err fault) = refl
+  memory (inr (inr (inr o))) is = elim o.came [
+    | inl a ↦ elim (answer_status (script_of o.bytes)) [ inl e ↦ absurd (cc (a.status_is, e)) | inr e ↦ absurd (cc (a.status_is, e)) ]
+    | inr other ↦ elim other [
+      | inl a ↦ carried s.before _ _ o.left (λ all h. (a.commands, subst (λ b. Takes w.before (first_texts (script_of b) a.commands ++ memory_line) w.after) h.0 a.wrote.takes))
+      | inr a ↦ absurd (cc a.status_is)
+    ]
+  ]
+
+  pub read : Outcome words result s w → words ≡ [] → ¬ Rose s.faults s.new_faults → IfSome s.before (λ bytes. s.after ≡ Some (drop LIMIT bytes))
+  read (inl o) none quiet = absurd (o.some none)
+  read (inr (inl o)) none quiet = absurd (quiet o.rose)
+  read (inr (inr (inl o))) none quiet = o.left
+  read (inr (inr (inr o))) none quiet = carried s.before _ _ o.left (λ all h. h.1)

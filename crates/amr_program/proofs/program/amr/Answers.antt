@@ -1,0 +1,44 @@
+use Rattle.std.proofs.Common.{ap, map}
+use Rattle.std.specs.Prelude.{string_bytes}
+use Rattle.amr_program.proofs.Clauses as clauses
+use Rattle.amr_program.proofs.Commands.{totals_kept_of}
+use Rattle.amr_program.proofs.program.amr.Goals as goal
+
+pub returns-clause-answer : goal.returns-clause-answer
+returns-clause-answer g c = clauses.answer _ _ _ _ c.answer_words.ensures.outcome
+
+pub returns-clause-words_refused : goal.returns-clause-words_refused
+returns-clause-words_refused g c is none = clauses.words_refused _ _ _ _ c.answer_words.ensures.outcome is (ap (map (λ w. string_bytes w)) none)
+
+pub returns-clause-words_alone : goal.returns-clause-words_alone
+returns-clause-words_alone g c some = clauses.words_alone _ _ _ _ c.answer_words.ensures.outcome (λ none. some (clauses.no_words (λ w. string_bytes w) c.args.words.now none))
+
+pub returns-clause-script_refused : goal.returns-clause-script_refused
+returns-clause-script_refused g c is = let told = clauses.script_refused _ _ _ _ c.answer_words.ensures.outcome is in (clauses.no_words (λ w. string_bytes w) c.args.words.now told.0, told.1)
+
+pub returns-clause-read_fault : goal.returns-clause-read_fault
+returns-clause-read_fault g c = clauses.read_fault _ _ _ _ c.answer_words.ensures.outcome
+
+pub returns-clause-read_fault_told : goal.returns-clause-read_fault_told
+returns-clause-read_fault_told g c = clauses.read_fault_told _ _ _ _ c.answer_words.ensures.outcome
+
+pub returns-clause-write_fault : goal.returns-clause-write_fault
+returns-clause-write_fault g c = clauses.write_fault _ _ _ _ c.answer_words.ensures.outcome
+
+pub returns-clause-write_fault_told : goal.returns-clause-write_fault_told
+returns-clause-write_fault_told g c = clauses.write_fault_told _ _ _ _ c.answer_words.ensures.outcome
+
+pub returns-clause-complete : goal.returns-clause-complete
+returns-clause-complete g c none = clauses.complete _ _ _ _ c.answer_words.ensures.outcome (ap (map (λ w. string_bytes w)) none)
+
+pub returns-clause-part : goal.returns-clause-part
+returns-clause-part g c = clauses.part _ _ _ _ c.answer_words.ensures.outcome
+
+pub returns-clause-memory : goal.returns-clause-memory
+returns-clause-memory g c = clauses.memory _ _ _ _ c.answer_words.ensures.outcome
+
+pub returns-clause-totals : goal.returns-clause-totals
+returns-clause-totals g c = totals_kept_of _
+
+pub returns-clause-read : goal.returns-clause-read
+returns-clause-read g c none = clauses.read _ _ _ _ c.answer_words.ensures.outcome (ap (map (λ w. string_bytes w)) none)

@@ -1,0 +1,4 @@
+pub mod Answer
+pub mod Lines
+pub mod Outcome
+pub mod Exit

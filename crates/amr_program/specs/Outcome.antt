@@ -1,0 +1,100 @@
+-- The ways in which the parts of a run end.
+use Rattle.std.specs.Prelude.{◌≡◌, ◌≢◌, ℕ, List, [], ◌++◌, Option, Some, Result, ◌⊎◌, IfSome, take, drop}
+use Rattle.amr_engine.specs.declared.engine.Cause.{Cause}
+use Rattle.amr_engine.specs.declared.engine.Cause.TheVariants as causes
+use Rattle.mesh_model.specs.declared.script.Line.{Line}
+use Rattle.mesh_model.specs.Commands.{PlainScript}
+use Rattle.mesh_model.specs.Grammar.{Fault, script_of}
+use Rattle.mesh_model.specs.Plain.{Mesh}
+use Rattle.mesh_model.specs.Run.{texts}
+use Rattle.outside_io.specs.Moved.{Rose, Takes, TakesPrefix}
+use Rattle.amr_program.specs.declared.status.Status.{Status}
+use Rattle.amr_program.specs.declared.status.Status.TheVariants as status
+use Rattle.amr_program.specs.declared.program.TheConstants.{LIMIT}
+use Rattle.amr_program.specs.Answer.{Answer, answer_of, first_texts}
+use Rattle.amr_program.specs.Lines.{memory_line, read_line, words_line}
+
+-- the sink before and after, by the bytes that it took and its faults
+pub record Written : Type 0 where
+  pub before : Option (List ℕ)
+  pub after : Option (List ℕ)
+  pub faults : ℕ
+  pub new_faults : ℕ
+
+-- the text was written, without a fault
+pub record Wrote (text : List ℕ) (w : Written) : Type 0 where
+  pub takes : Takes w.before text w.after
+  pub calm : w.new_faults ≡ w.faults
+
+-- the first bytes of the text were written, and then the sink failed
+pub record WrotePart (text : List ℕ) (w : Written) : Type 0 where
+  pub takes : TakesPrefix w.before text w.after
+  pub rose : Rose w.faults w.new_faults
+
+-- the text was written and this is the status, or the sink failed
+abbrev pub Ended : Status → List ℕ → Status → Written → Type 0
+Ended ends text result w = ((result ≡ ends) × Wrote text w) ⊎ ((result ≡ status.WriteFault) × WrotePart text w)
+
+-- how a run of commands stopped: the sink failed, or memory was refused at a command
+abbrev pub RunStops : Cause → Mesh → List Line → Written → Type 0
+RunStops causes.WriteFault m lines w = WrotePart (texts m lines) w
+RunStops causes.OutOfMemory m lines w = (k : ℕ) × Wrote (texts m (take k lines)) w
+
+-- the answer came, with all of its text
+pub record Answered (read : Result PlainScript Fault) (result : Status) (w : Written) : Type 0 where
+  pub status_is : result ≡ (answer_of read).status
+  pub wrote : Wrote (answer_of read).text w
+
+-- memory was refused at a command, or before the first
+pub record Starved (read : Result PlainScript Fault) (result : Status) (w : Written) : Type 0 where
+  pub status_is : result ≡ status.OutOfMemory
+  pub commands : ℕ
+  pub wrote : Wrote (first_texts read commands ++ memory_line) w
+
+-- the sink failed within the answer's text, or within the line that says that memory is wanting
+pub record Failed (read : Result PlainScript Fault) (result : Status) (w : Written) : Type 0 where
+  pub status_is : result ≡ status.WriteFault
+  pub text : List ℕ
+  pub text_is : (text ≡ (answer_of read).text) ⊎ ((k : ℕ) × (text ≡ first_texts read k ++ memory_line))
+  pub wrote : WrotePart text w
+
+-- what comes of what was read of a script
+abbrev pub Came : Result PlainScript Fault → Status → Written → Type 0
+Came read result w = Answered read result w ⊎ (Starved read result w ⊎ Failed read result w)
+
+-- the source before and after, by the bytes that it has left and its faults
+pub record Source : Type 0 where
+  pub before : Option (List ℕ)
+  pub after : Option (List ℕ)
+  pub faults : ℕ
+  pub new_faults : ℕ
+
+-- there were words, and the source was not touched
+pub record ByWords (words : List (List ℕ)) (result : Status) (s : Source) (w : Written) : Type 0 where
+  pub some : words ≢ []
+  pub calm : s.new_faults ≡ s.faults
+  pub ended : Ended status.Words words_line result w
+
+-- the source failed
+pub record ByRead (words : List (List ℕ)) (result : Status) (s : Source) (w : Written) : Type 0 where
+  pub none : words ≡ []
+  pub rose : Rose s.faults s.new_faults
+  pub ended : Ended status.ReadFault read_line result w
+
+-- memory to read the source into was refused, and its bytes were passed over
+pub record ByMemory (words : List (List ℕ)) (result : Status) (s : Source) (w : Written) : Type 0 where
+  pub none : words ≡ []
+  pub calm : s.new_faults ≡ s.faults
+  pub left : IfSome s.before (λ all. s.after ≡ Some (drop LIMIT all))
+  pub ended : Ended status.OutOfMemory memory_line result w
+
+-- the bytes were read
+pub record ByScript (words : List (List ℕ)) (result : Status) (s : Source) (w : Written) : Type 0 where
+  pub none : words ≡ []
+  pub calm : s.new_faults ≡ s.faults
+  pub bytes : List ℕ
+  pub left : IfSome s.before (λ all. (bytes ≡ take LIMIT all) × (s.after ≡ Some (drop LIMIT all)))
+  pub came : Came (script_of bytes) result w
+
+abbrev pub Outcome : List (List ℕ) → Status → Source → Written → Type 0
+Outcome words result s w = ByWords words result s w ⊎ (ByRead words result s w ⊎ (ByMemory words result s w ⊎ ByScript words result s w))

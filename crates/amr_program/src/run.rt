@@ -1,0 +1,84 @@
+ghost use Rattle.amr_engine.specs.Plain.{declared_of, plain};
+ghost use Rattle.amr_program.specs.Lines.{memory_line, read_line, script_line, words_line};
+ghost use Rattle.amr_program.specs.Outcome.{Came, Ended, RunStops, Wrote};
+ghost use Rattle.mesh_model.specs.Commands.{InLimits, IsLineOf, plain_script};
+ghost use Rattle.mesh_model.specs.Grammar.{script_of};
+ghost use Rattle.mesh_model.specs.Run.{texts};
+ghost use Rattle.std.specs.Prelude.{◌≡◌, All, IfErr, OnOk, Ok};
+
+use crate::status::Status;
+use amr_engine::engine::{Cause, Engine, Stop};
+use outside_io::disk::Disk;
+use outside_io::sink::{Sink, write_all};
+use script_lang::reader::{ScriptStop, read_script};
+use script_lang::{Line, Script};
+use std::alloc::Global;
+
+/// What is written where the words are refused.
+pub const WORDS_LINE: &str =
+    "error: words; usage: amr [--ranks R] [--order K] [--workers W] [--restart | --sample K]\n";
+
+/// What is written where the script is refused.
+pub const SCRIPT_LINE: &str = "error: script refused\n";
+
+/// What is written where the source failed.
+pub const READ_LINE: &str = "error: read failed\n";
+
+/// What is written where memory was refused.
+pub const MEMORY_LINE: &str = "error: out of memory\n";
+
+/// Writes the last line of a run, and answers the status, or that the sink failed.
+pub fn end<K: Sink>(sink: &mut K, line: &str, status: Status) -> Status
+    ensures { Ended status line.now result (record { before = K.taken sink.old; after = K.taken sink.new; faults = K.faults sink.old; new_faults = K.faults sink.new }) }
+{
+    match write_all(sink, line.as_bytes()) {
+        Ok(()) => status,
+        Err(_) => Status::WriteFault,
+    }
+}
+
+/// Does the commands of the lines in order, up to the first that stops.
+fn run<K: Sink, D: Disk>(engine: &mut Engine, lines: &[Line], sink: &mut K, disk: &mut D) -> Result<(), Stop>
+    requires { All (IsLineOf (declared_of engine.old)) lines.now }
+    ensures text { OnOk result (Wrote (texts (plain engine.old) lines.now) (record { before = K.taken sink.old; after = K.taken sink.new; faults = K.faults sink.old; new_faults = K.faults sink.new })) }
+    ensures stops { IfErr result (λ stop. RunStops stop.cause (plain engine.old) lines.now (record { before = K.taken sink.old; after = K.taken sink.new; faults = K.faults sink.old; new_faults = K.faults sink.new })) }
+    ensures disk { disk.new ≡ disk.old }
+{
+    for line in lines {
+        engine.command(line, sink, disk)?;
+    }
+    Ok(())
+}
+
+/// Runs a script from the start mesh.
+fn run_script<K: Sink, D: Disk>(alloc: Global, script: Script, sink: &mut K, disk: &mut D) -> Status
+    requires limits { InLimits script.declared }
+    requires lines { All (IsLineOf script.declared) script.lines.items }
+    ensures came { Came (Ok (plain_script script)) result (record { before = K.taken sink.old; after = K.taken sink.new; faults = K.faults sink.old; new_faults = K.faults sink.new }) }
+    ensures disk { disk.new ≡ disk.old }
+{
+    let Script { declared, lines } = script;
+    let mut engine = match Engine::new(alloc, declared) {
+        Ok(engine) => engine,
+        Err(_) => return end(sink, MEMORY_LINE, Status::OutOfMemory),
+    };
+    match run(&mut engine, &lines, sink, disk) {
+        Ok(()) => Status::Done,
+        Err(stop) => match stop.cause {
+            Cause::WriteFault => Status::WriteFault,
+            Cause::OutOfMemory => end(sink, MEMORY_LINE, Status::OutOfMemory),
+        },
+    }
+}
+
+/// Reads and runs the script that the bytes say.
+pub fn answer_script<K: Sink, D: Disk>(alloc: Global, bytes: &[u8], sink: &mut K, disk: &mut D) -> Status
+    ensures came { Came (script_of bytes.now) result (record { before = K.taken sink.old; after = K.taken sink.new; faults = K.faults sink.old; new_faults = K.faults sink.new }) }
+    ensures disk { disk.new ≡ disk.old }
+{
+    match read_script(alloc, bytes) {
+        Ok(script) => run_script(alloc, script, sink, disk),
+        Err(ScriptStop::Refused) => end(sink, SCRIPT_LINE, Status::Script),
+        Err(ScriptStop::OutOfMemory) => end(sink, MEMORY_LINE, Status::OutOfMemory),
+    }
+}
