@@ -141,9 +141,9 @@ pub fn regrid_keeps_balance()
     ensures { laws.RegridKeepsBalance }
 {}
 
-/// Where the walk finds no number out of range, contents and what flowed out are in range.
-pub fn contents_are_walked()
-    ensures { laws.ContentsAreWalked }
+/// Where the walk finds no number out of range, all numbers are in range.
+pub fn all_numbers_are_walked()
+    ensures { laws.AllNumbersAreWalked }
 {}
 
 /// A valid mesh is valid with other numbers on its leaf faces, where these are in range.
