@@ -1,12 +1,12 @@
 -- Commands keep a mesh valid.
-use Rattle.std.proofs.Common.{ℕ, ◌*◌, ◌≤◌, ◌^◌, ◌==◌, ℤ, arith, inl, inr, List, [], ◌∷◌, length, length-append, zero, suc}
+use Rattle.std.proofs.Common.{◌≡◌, ℕ, ◌*◌, ◌≤◌, ◌^◌, ◌==◌, ℤ, arith, inl, inr, List, [], ◌∷◌, length, length-append, zero, suc, Bool, true, false, ◌&&◌, if◌then◌else◌, refl, Option, Some, None, IsSome, ne_eqb, ◌<◌, pos}
 use Rattle.std.proofs.lemmas.Nat.{mul-le}
 use Rattle.std.proofs.lemmas.Bool.{cases_Bool}
 use Rattle.amr_num.specs.declared.BlockAt.{BlockAt}
 use Rattle.amr_num.specs.declared.FaceAt.{FaceAt}
 use Rattle.mesh_model.specs.Blocks.{is_first_child, parent_block}
 use Rattle.mesh_model.specs.Limits.{most_nodes}
-use Rattle.mesh_model.specs.Plain.{Mesh, on_faces}
+use Rattle.mesh_model.specs.Plain.{Mesh, on_faces, is_leaf, is_leaf_face, is_leaf_edge, is_canonical, is_canonical_edge}
 use Rattle.mesh_model.specs.Order.{begun_at, nodes}
 use Rattle.mesh_model.specs.Valid.{ValidMesh, FewNodes, InRange}
 use Rattle.mesh_model.specs.Regrid.{regrid, new_grid}
@@ -16,7 +16,16 @@ use Rattle.mesh_model.specs.Laws.{leaf_cells}
 use Rattle.mesh_model.proofs.ShapeLimits.{cells_most}
 use Rattle.mesh_model.proofs.FieldsKept.{regrid_on_leaves, advect_on_leaves, faces_on_leaves}
 use Rattle.mesh_model.proofs.Ruled.{new_grid_valid}
+use Rattle.mesh_model.proofs.ZeroViews.{no_cell_views, no_face_views, no_edge_views}
 use Rattle.mesh_model.proofs.Sorting.{new_grid_sorted}
+
+off_or : (on : Bool) {z : ℤ} → z ≡ pos 0 → (if on then z else pos 0) ≡ pos 0
+off_or true h = h
+off_or false h = refl
+
+not_both : (o : Option (List ℕ)) → IsSome o → o ≡ None → ⊥
+not_both None t h = cc
+not_both (Some x) t h = cc
 
 -- regrid, where nodes and numbers keep the limits
 pub regrid_valid : (m : Mesh) → ValidMesh m → FewNodes (new_grid m) → InRange (regrid m) → ValidMesh (regrid m)
@@ -25,26 +34,47 @@ regrid_valid m valid few range = record {
   order = new_grid_sorted m valid;
   nodes = few;
   numbers = regrid_on_leaves m;
+  declared = record {
+    few = valid.declared.few;
+    cells = λ v h c. off_or (is_leaf (new_grid m) c) (no_cell_views m.grid (m.cells v) (valid.declared.cells v h) c);
+    outs = valid.declared.outs;
+    faces = λ h f. off_or (is_canonical m.grid.shape f && is_leaf_face (new_grid m) f) (no_face_views m.grid m.faces (valid.declared.faces h) f);
+    edges = λ h e. off_or (is_canonical_edge m.grid.shape e && is_leaf_edge (new_grid m) e) (no_edge_views m.grid m.edges (valid.declared.edges h) e);
+  };
   range = range;
   marks = record { refine = λ b h. cc; derefine = λ b h. cc };
 }
 
-pub advect_valid : (m : Mesh) (var : ℕ) (n : Speeds) → ValidMesh m → InRange (advect m var n) → ValidMesh (advect m var n)
-advect_valid m var n valid range = record {
+pub advect_valid : (m : Mesh) (var : ℕ) (n : Speeds) → ValidMesh m → var < length m.names.cells → InRange (advect m var n) → ValidMesh (advect m var n)
+advect_valid m var n valid there range = record {
   grid = valid.grid;
   order = valid.order;
   nodes = valid.nodes;
   numbers = advect_on_leaves m var n valid.numbers;
+  declared = record {
+    few = valid.declared.few;
+    cells = λ v h c. rw (ne_eqb v var (λ e. absurd (omega arith))) (valid.declared.cells v h c);
+    outs = λ v h. rw (ne_eqb v var (λ e. absurd (omega arith))) (valid.declared.outs v h);
+    faces = valid.declared.faces;
+    edges = valid.declared.edges;
+  };
   range = range;
   marks = record { refine = valid.marks.refine; derefine = valid.marks.derefine };
 }
 
-pub faces_valid : (m : Mesh) (k : FaceAt → ℤ) → ValidMesh m → InRange (with_faces m (on_faces m.grid k)) → ValidMesh (with_faces m (on_faces m.grid k))
-faces_valid m k valid range = record {
+pub faces_valid : (m : Mesh) (k : FaceAt → ℤ) → ValidMesh m → IsSome m.names.face → InRange (with_faces m (on_faces m.grid k)) → ValidMesh (with_faces m (on_faces m.grid k))
+faces_valid m k valid there range = record {
   grid = valid.grid;
   order = valid.order;
   nodes = valid.nodes;
   numbers = faces_on_leaves m k valid.numbers;
+  declared = record {
+    few = valid.declared.few;
+    cells = valid.declared.cells;
+    outs = valid.declared.outs;
+    faces = λ h f. absurd (not_both m.names.face there h);
+    edges = valid.declared.edges;
+  };
   range = range;
   marks = record { refine = valid.marks.refine; derefine = valid.marks.derefine };
 }

@@ -1,5 +1,5 @@
 -- The grid whose leaves are the roots is valid.
-use Rattle.std.proofs.Common.{◌≡◌, ℕ, ◌-◌, ◌*◌, ◌/◌, ◌^◌, ◌<◌, refl, ap, arith}
+use Rattle.std.proofs.Common.{◌≡◌, ℕ, ◌-◌, ◌*◌, ◌/◌, ◌^◌, ◌<◌, ◌≤◌, length, refl, ap, arith}
 use Rattle.amr_num.specs.declared.BlockAt.{BlockAt}
 use Rattle.mesh_model.specs.Plain.{Grid}
 use Rattle.mesh_model.specs.VariableNames.{VariableNames}
@@ -42,12 +42,13 @@ module _ (g : Grid) (shape : IsShape g.shape) (roots : AllRoots g) where
   }
 
 -- the start mesh of a shape is valid
-pub start_mesh_valid : (s : Shape) (names : VariableNames) → IsShape s → ValidMesh (start_mesh s names)
-start_mesh_valid s names shape = record {
+pub start_mesh_valid : (s : Shape) (names : VariableNames) → IsShape s → length names.cells ≤ 4 → ValidMesh (start_mesh s names)
+start_mesh_valid s names shape few = record {
   grid = start_valid (start_grid s) shape (record { root = start_root s; every = start_every s shape });
   order = start_sorted s;
   nodes = start_few s;
   numbers = record { cells = λ v c h. refl; faces = λ f h. refl; edges = λ e h. refl };
+  declared = record { few = few; cells = λ v h c. refl; outs = λ v h. refl; faces = λ h f. refl; edges = λ h e. refl };
   range = record { cells = λ v c. omega arith; outs = λ v. omega arith; faces = λ f. omega arith; edges = λ e. omega arith };
   marks = record { refine = λ b h. cc; derefine = λ b h. cc };
 }

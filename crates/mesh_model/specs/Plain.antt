@@ -36,7 +36,9 @@ block_of n c = record { level = c.level; x = c.x / n; y = c.y / n; z = c.z / n }
 
 -- b lies in the block a, which is not finer
 abbrev pub lies_in : BlockAt → BlockAt → Bool
-lies_in b a = nat_le a.level b.level && (b.x / 2 ^ (b.level - a.level) == a.x) && (b.y / 2 ^ (b.level - a.level) == a.y) && (b.z / 2 ^ (b.level - a.level) == a.z)
+lies_in b a =
+    nat_le a.level b.level && (b.x / 2 ^ (b.level - a.level) == a.x) && (b.y / 2 ^ (b.level - a.level) == a.y)
+    && (b.z / 2 ^ (b.level - a.level) == a.z)
 
 -- b is a leaf; finer leaves lie in b
 unfoldable pub is_leaf_block : Grid → BlockAt → Bool
@@ -80,7 +82,9 @@ abbrev pub is_canonical : Shape → FaceAt → Bool
 is_canonical s f = is_canonical_at s f.axis f.level (on f.axis (face_numbers f))
 
 abbrev pub is_canonical_edge : Shape → EdgeAt → Bool
-is_canonical_edge s e = is_canonical_at s (next e.axis) e.level (on (next e.axis) (edge_numbers e)) && is_canonical_at s (next (next e.axis)) e.level (on (next (next e.axis)) (edge_numbers e))
+is_canonical_edge s e =
+    is_canonical_at s (next e.axis) e.level (on (next e.axis) (edge_numbers e))
+    && is_canonical_at s (next (next e.axis)) e.level (on (next (next e.axis)) (edge_numbers e))
 
 -- a field on leaf cells, on canonical leaf faces or on canonical leaf edges, and 0 elsewhere
 abbrev pub on_cells : Grid → (CellAt → ℤ) → CellAt → ℤ

@@ -141,6 +141,11 @@ pub fn regrid_keeps_balance()
     ensures { laws.RegridKeepsBalance }
 {}
 
+/// Where the walk finds no number out of range, all numbers are in range.
+pub fn all_numbers_are_walked()
+    ensures { laws.AllNumbersAreWalked }
+{}
+
 /// A valid mesh is valid with other numbers on its leaf faces, where these are in range.
 pub fn new_faces_keep_validity()
     ensures { laws.NewFacesKeepValidity }
