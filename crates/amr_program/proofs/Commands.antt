@@ -42,9 +42,10 @@ pub run_on : (m now after : Mesh) (lines : List Line) (i : ℕ) (d : Line) (a b 
 run_on m now after lines i d a b c h at before made wrote =
     let next : suc i ≡ i + 1 = omega arith in
     let command = (get_or lines i d).command in
-    let here : Takes b (text_of (mesh_of m (take i lines)) command) c = subst (λ x. Takes b (text_of x command) c) at wrote in
-    (made ∙ ap (λ x. mesh_after x command) at ∙ sym (mesh_next m lines i d h) ∙ ap (λ k. mesh_of m (take k lines)) next,
-     subst (λ t. Takes a t c) (sym (texts_next m lines i d h) ∙ ap (λ k. texts m (take k lines)) next) (takes_more a b c (texts m (take i lines)) (text_of (mesh_of m (take i lines)) command) before here))
+    let here : Takes b (text_of (mesh_of m (take i lines)) command) c = subst (λ x. Takes b (text_of x command) c) at wrote in (
+      made ∙ ap (λ x. mesh_after x command) at ∙ sym (mesh_next m lines i d h) ∙ ap (λ k. mesh_of m (take k lines)) next,
+      subst (λ t. Takes a t c) (sym (texts_next m lines i d h) ∙ ap (λ k. texts m (take k lines)) next) (takes_more a b c (texts m (take i lines)) (text_of (mesh_of m (take i lines)) command) before here),
+    )
 
 -- a command was stopped
 pub run_stops : (cause : Cause) (m now : Mesh) (lines : List Line) (i : ℕ) (d : Line) (a b c : Option (List ℕ)) (f g h : ℕ) → i < length lines → now ≡ mesh_of m (take i lines) → Takes a (texts m (take i lines)) b → g ≡ f → IsCause cause b (text_of now (get_or lines i d).command) c g h →

@@ -4,6 +4,8 @@
 mod program;
 mod run;
 mod status;
+#[cfg(test)]
+mod tests;
 
 use outside_io::folder_disk::FolderDisk;
 use outside_io::std_sink::StdSink;
@@ -11,21 +13,24 @@ use outside_io::std_source::StdSource;
 use program::amr;
 use status::Status;
 use std::alloc::Global;
-use std::env;
-use std::io;
 use std::process::ExitCode;
 use std::rt::Env;
+use std::{env, io};
 
 /// The words of the program, without its own name.
 fn words_of<R: Env + Alloc<A = Global>>(rt: &R) -> io::Result<Vec<String>> {
-    env::args(rt)?.skip(1).collect(rt.alloc()).map_err(io::Error::from)
+    env::args(rt)?
+        .skip(1)
+        .collect(rt.alloc())
+        .map_err(io::Error::from)
 }
-
 
 fn main(rt: HostRuntime) -> ExitCode {
     let words = match words_of(&rt) {
         Ok(words) => words,
-        Err(e) if e.kind() == io::ErrorKind::OutOfMemory => return ExitCode::from(Status::OutOfMemory.exit()),
+        Err(e) if e.kind() == io::ErrorKind::OutOfMemory => return ExitCode::from(
+            Status::OutOfMemory.exit(),
+        ),
         Err(_) => return ExitCode::from(Status::Words.exit()),
     };
     let folder = match String::from_str(rt.alloc(), ".") {

@@ -38,7 +38,12 @@ pub fn end<K: Sink>(sink: &mut K, line: &str, status: Status) -> Status
 }
 
 /// Does the commands of the lines in order, up to the first that stops.
-fn run<K: Sink, D: Disk>(engine: &mut Engine, lines: &[Line], sink: &mut K, disk: &mut D) -> Result<(), Stop>
+fn run<K: Sink, D: Disk>(
+    engine: &mut Engine,
+    lines: &[Line],
+    sink: &mut K,
+    disk: &mut D,
+) -> Result<(), Stop>
     requires { All (IsLineOf (declared_of engine.old)) lines.now }
     ensures text { OnOk result (Wrote (texts (plain engine.old) lines.now) (record { before = K.taken sink.old; after = K.taken sink.new; faults = K.faults sink.old; new_faults = K.faults sink.new })) }
     ensures stops { IfErr result (λ stop. RunStops stop.cause (plain engine.old) lines.now (record { before = K.taken sink.old; after = K.taken sink.new; faults = K.faults sink.old; new_faults = K.faults sink.new })) }
@@ -72,7 +77,12 @@ fn run_script<K: Sink, D: Disk>(alloc: Global, script: Script, sink: &mut K, dis
 }
 
 /// Reads and runs the script that the bytes say.
-pub fn answer_script<K: Sink, D: Disk>(alloc: Global, bytes: &[u8], sink: &mut K, disk: &mut D) -> Status
+pub fn answer_script<K: Sink, D: Disk>(
+    alloc: Global,
+    bytes: &[u8],
+    sink: &mut K,
+    disk: &mut D,
+) -> Status
     ensures came { Came (script_of bytes.now) result (record { before = K.taken sink.old; after = K.taken sink.new; faults = K.faults sink.old; new_faults = K.faults sink.new }) }
     ensures disk { disk.new ≡ disk.old }
 {

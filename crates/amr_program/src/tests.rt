@@ -1,0 +1,124 @@
+ghost use Rattle.std.specs.Prelude.{◌<◌};
+
+use crate::program::amr;
+use crate::status::Status;
+use outside_io::memory_disk::MemDisk;
+use outside_io::memory_sink::MemSink;
+use outside_io::memory_source::MemSource;
+use std::alloc::Global;
+use std::test::Fail;
+
+const SCRIPT: &[u8] =
+    b"domain 1 1 1\ncells 4 1\ncellvar u\nfill u all 2\nfill u box 0 1 0 0 3 1 1 -5\nprint u\ntotal u\nend\n";
+
+/// What the script prints, in 18 lines.
+const PRINTED: &[u8] =
+    b"cell u block 0 0 0 0\n2 -5 -5 2\n2 2 2 2\n2 2 2 2\n2 2 2 2\n2 2 2 2\n2 2 2 2\n2 2 2 2\n2 2 2 2\n2 2 2 2\n2 2 2 2\n2 2 2 2\n2 2 2 2\n2 2 2 2\n2 2 2 2\n2 2 2 2\n2 2 2 2\ntotal u 114 out 0\n";
+
+/// How the outside behaves: the bytes of a read and of a write, and the number of the call that fails, from 1.
+#[derive(Clone, Copy)]
+struct Outside {
+    read_step: u32,
+    failing_read: u64,
+    write_step: u32,
+    failing_write: u64,
+    ghost steps: { (0 < read_step) × (0 < write_step) },
+}
+
+/// Nothing fails, and calls move all that they are handed.
+const QUIET: Outside = Outside {
+    read_step: 1 << 20,
+    failing_read: 0,
+    write_step: 4096,
+    failing_write: 0,
+};
+
+/// Runs a script on the objects in memory.
+fn run(
+    alloc: Global,
+    words: &[String],
+    script: &[u8],
+    outside: Outside,
+) -> Result<(Status, MemSink), Fail> {
+    let failing_read = Vec::from_slice(alloc, &[outside.failing_read])?;
+    let failing_write = Vec::from_slice(alloc, &[outside.failing_write])?;
+    let script = Vec::from_slice(alloc, script)?;
+    let mut source = MemSource::new(script, outside.read_step, failing_read);
+    let mut sink = MemSink::new(alloc, 4096, outside.write_step, failing_write)?;
+    let mut disk = MemDisk::new(alloc, Vec::new(alloc), Vec::new(alloc), 0, Vec::new(alloc))?;
+    let status = amr(alloc, words, &mut source, &mut sink, &mut disk);
+    Ok((status, sink))
+}
+
+/// How many lines the bytes end.
+fn lines_in(bytes: &[u8]) -> usize {
+    bytes.iter().filter(|b| **b == b'\n').count()
+}
+
+#[test]
+fn prints_the_same_in_any_pieces(rt: HostRuntime) -> Result<(), Fail> {
+    let a_byte_each = Outside {
+        read_step: 1,
+        failing_read: 0,
+        write_step: 1,
+        failing_write: 0,
+    };
+    for outside in [QUIET, a_byte_each] {
+        let (status, sink) = run(rt.alloc(), &[], SCRIPT, outside)?;
+        assert_eq!(rt; status, Status::Done);
+        assert_eq!(rt; sink.taken(), PRINTED);
+    }
+    Ok(())
+}
+
+#[test]
+fn each_read_may_fail(rt: HostRuntime) -> Result<(), Fail> {
+    for failing_read in 1..8 {
+        let outside = Outside {
+            read_step: 16,
+            failing_read,
+            write_step: 4096,
+            failing_write: 0,
+        };
+        let (status, sink) = run(rt.alloc(), &[], SCRIPT, outside)?;
+        assert_eq!(rt; status, Status::ReadFault, "read {failing_read}");
+        assert_eq!(rt; sink.taken(), b"error: read failed\n".as_slice());
+    }
+    Ok(())
+}
+
+#[test]
+fn each_write_may_fail(rt: HostRuntime) -> Result<(), Fail> {
+    for failing_write in 1..19 {
+        let outside = Outside {
+            read_step: 4096,
+            failing_read: 0,
+            write_step: 4096,
+            failing_write,
+        };
+        let (status, sink) = run(rt.alloc(), &[], SCRIPT, outside)?;
+        assert_eq!(rt; status, Status::WriteFault, "write {failing_write}");
+        assert!(rt; PRINTED.starts_with(sink.taken()));
+        assert_eq!(rt; lines_in(sink.taken()) as u64 + 1, failing_write);
+    }
+    Ok(())
+}
+
+#[test]
+fn refuses_words_and_scripts_that_are_too_long(rt: HostRuntime) -> Result<(), Fail> {
+    let mut script = Vec::from_slice(rt.alloc(), b"domain 1 1 1\nend\n")?;
+    let (status, sink) = run(rt.alloc(), &[], &script, QUIET)?;
+    assert_eq!(rt; (status, sink.taken().len()), (Status::Done, 0));
+    script.resize(1 << 20, b'\n')?;
+    let (status, sink) = run(rt.alloc(), &[], &script, QUIET)?;
+    assert_eq!(rt; (status, sink.taken().len()), (Status::Done, 0));
+    script.push(b'\n')?;
+    let (status, sink) = run(rt.alloc(), &[], &script, QUIET)?;
+    assert_eq!(rt; status, Status::Script);
+    assert_eq!(rt; sink.taken(), b"error: script refused\n".as_slice());
+    let words = vec![in rt.alloc(); String::from_str(rt.alloc(), "--ranks")?]?;
+    let (status, sink) = run(rt.alloc(), &words, &script, QUIET)?;
+    assert_eq!(rt; status, Status::Words);
+    assert!(rt; sink.taken().starts_with(b"error: words; usage: amr "));
+    Ok(())
+}
