@@ -14,4 +14,7 @@ pub mod Laws
 pub mod Order
 pub mod Commands
 pub mod Words
+pub mod Forms
+pub mod Declarations
+pub mod Actions
 pub mod Grammar

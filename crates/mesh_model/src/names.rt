@@ -94,4 +94,32 @@ impl Names {
             Err(_) => Err(OutOfMemory),
         }
     }
+
+    /// Declares the face variable `name`.
+    pub fn set_face(&mut self, alloc: Global, name: &str) -> Result<(), OutOfMemory>
+        ensures ok { OnOk result (self.new ≡ record self.old { face = Some name.now }) }
+        ensures err { OnErr result (self.new ≡ self.old) }
+    {
+        match String::from_str(alloc, name) {
+            Ok(name) => {
+                self.face = Some(name);
+                Ok(())
+            }
+            Err(_) => Err(OutOfMemory),
+        }
+    }
+
+    /// Declares the edge variable `name`.
+    pub fn set_edge(&mut self, alloc: Global, name: &str) -> Result<(), OutOfMemory>
+        ensures ok { OnOk result (self.new ≡ record self.old { edge = Some name.now }) }
+        ensures err { OnErr result (self.new ≡ self.old) }
+    {
+        match String::from_str(alloc, name) {
+            Ok(name) => {
+                self.edge = Some(name);
+                Ok(())
+            }
+            Err(_) => Err(OutOfMemory),
+        }
+    }
 }
