@@ -41,22 +41,33 @@ declaration_of w =
     else if bytes_eq w (codes "edgevar") then Some declaration.EdgeVar
     else None
 
-unfoldable pub action_of : List ℕ → Option Action
-action_of w =
+unfoldable pub setting_of : List ℕ → Option Action
+setting_of w =
     if bytes_eq w (codes "fill") then Some action.Fill
     else if bytes_eq w (codes "faceset") then Some action.FaceSet
     else if bytes_eq w (codes "edgeset") then Some action.EdgeSet
     else if bytes_eq w (codes "uniform") then Some action.Uniform
     else if bytes_eq w (codes "mark") then Some action.Mark
-    else if bytes_eq w (codes "regrid") then Some action.Regrid
+    else None
+
+unfoldable pub step_of : List ℕ → Option Action
+step_of w =
+    if bytes_eq w (codes "regrid") then Some action.Regrid
     else if bytes_eq w (codes "advect") then Some action.Advect
     else if bytes_eq w (codes "curl") then Some action.Curl
     else if bytes_eq w (codes "induct") then Some action.Induct
     else if bytes_eq w (codes "checkpoint") then Some action.Checkpoint
-    else if bytes_eq w (codes "print") then Some action.Print
+    else None
+
+unfoldable pub report_of : List ℕ → Option Action
+report_of w =
+    if bytes_eq w (codes "print") then Some action.Print
     else if bytes_eq w (codes "total") then Some action.Total
     else if bytes_eq w (codes "netflux") then Some action.NetFlux
     else None
+
+abbrev pub action_of : List ℕ → Option Action
+action_of w = option_or (option_or (setting_of w) (step_of w)) (report_of w)
 
 unfoldable pub keyword_of : List ℕ → Option Keyword
 keyword_of w = option_or (option_map Declares (declaration_of w)) (option_or (option_map Acts (action_of w)) (if bytes_eq w (codes "end") then Some Ends else None))

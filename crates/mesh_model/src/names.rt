@@ -1,4 +1,4 @@
-ghost use Rattle.std.specs.Prelude.{◌≡◌, ℕ, ◌<◌, ◌≤◌, List, [], ◌∷◌, ◌++◌, length, map, slice_get, OnOk, OnErr, Option, Some, None};
+ghost use Rattle.std.specs.Prelude.{◌≡◌, ℕ, ◌<◌, ◌≤◌, List, [], ◌∷◌, ◌++◌, length, map, slice_get, IfOk, OnOk, OnErr, Option, Some, None};
 ghost use Rattle.std.specs.Option.{option_copied, option_map};
 ghost use Rattle.mesh_model.specs.VariableNames.{no_names};
 
@@ -77,6 +77,23 @@ impl Names {
             Some(name) => Some(name.as_str()),
             None => None,
         }
+    }
+
+    /// The same names, kept on their own.
+    pub fn try_clone(&self, alloc: Global) -> Result<Names, OutOfMemory>
+        ensures { IfOk result (λ names. names ≡ self.now) }
+    {
+        let mut names = Names::new(alloc);
+        for v in 0..self.cells() {
+            names.add_cell(alloc, self.cell(v))?;
+        }
+        if let Some(name) = self.face() {
+            names.set_face(alloc, name)?;
+        }
+        if let Some(name) = self.edge() {
+            names.set_edge(alloc, name)?;
+        }
+        Ok(names)
     }
 
     /// Declares the cell variable `name`, after those before.
