@@ -1,5 +1,5 @@
 -- Which numbers the commands and declarations of an accepted script have, and the script as plain data.
-use Rattle.std.specs.Prelude.{◌≡◌, ℕ, ◌<◌, ◌≤◌, ◌≢◌, ◌^◌, ◌⊎◌, true, List, ℤ, ◌++◌, length, option_to_list, slice_index, slice_index_or, All, AllPairs, IsSome}
+use Rattle.std.specs.Prelude.{◌≡◌, ℕ, ◌<◌, ◌≤◌, ◌≢◌, ◌^◌, ◌⊎◌, true, List, ℤ, length, IfSome, slice_index, slice_index_or, All, AllPairs, IsSome}
 use Rattle.amr_num.specs.Numbers.{Within}
 use Rattle.amr_num.specs.declared.Axis.{Axis}
 use Rattle.amr_num.specs.declared.Axis.TheVariants.{X, Y, Z}
@@ -93,10 +93,6 @@ IsCommandOf d NetFlux = IsSome d.names.face
 abbrev pub IsLineOf : Declared → Line → Type 0
 IsLineOf d line = IsCommandOf d line.command
 
--- the names of all variables
-abbrev pub all_names : VariableNames → List (List ℕ)
-all_names names = names.cells ++ (option_to_list names.face ++ option_to_list names.edge)
-
 -- both sides of an axis are periodic, or none is
 abbrev pub ArePaired : SideKind → SideKind → Type 0
 ArePaired low high = is_periodic_kind low ≡ is_periodic_kind high
@@ -118,13 +114,22 @@ pub record IsAcceptedShape (s : Shape) : Type 0 where
   pub levels : (s.min ≤ s.max) × (s.max ≤ 10)
   pub sides : AreSides s.sides
 
--- at most four cell variables, and names that differ from each other
-pub record AreAcceptedNames (names : VariableNames) : Type 0 where
+-- at most four cell variables; each name is one
+pub record AreNames (names : VariableNames) : Type 0 where
   pub few : length names.cells ≤ 4
-  pub all : All (λ w. is_name w ≡ true) (all_names names)
-  pub differ : AllPairs (λ a b. a ≢ b) (all_names names)
+  pub cells : All (λ w. is_name w ≡ true) names.cells
+  pub face : IfSome names.face (λ w. is_name w ≡ true)
+  pub edge : IfSome names.edge (λ w. is_name w ≡ true)
+
+-- the names of all variables differ from each other
+pub record AreDifferent (names : VariableNames) : Type 0 where
+  pub cells : AllPairs (λ a b. a ≢ b) names.cells
+  pub face : IfSome names.face (λ f. All (λ c. c ≢ f) names.cells)
+  pub edge : IfSome names.edge (λ e. All (λ c. c ≢ e) names.cells)
+  pub both : IfSome names.face (λ f. IfSome names.edge (λ e. f ≢ e))
 
 -- the declarations are within the limits of the language
 pub record InLimits (d : Declared) : Type 0 where
   pub shape : IsAcceptedShape d.shape
-  pub names : AreAcceptedNames d.names
+  pub names : AreNames d.names
+  pub different : AreDifferent d.names

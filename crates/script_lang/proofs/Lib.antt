@@ -1,4 +1,3 @@
 pub mod Places
 pub mod Digits
 pub mod Reading
-pub mod Laws

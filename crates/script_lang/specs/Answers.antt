@@ -37,7 +37,7 @@ Stopped (ends.Fault line reason) n said = (line ≡ n) × (said ≡ Err reason)
 Stopped ends.OutOfMemory n said = Unit {0}
 
 -- a stop is the fault that the language gives, unless memory ran out
-abbrev pub Halts : {A : Type 0} → Halt → Result A grammar.Fault → Type 0
+abbrev pub Halts : {A : Type 0} → ScriptStop → Result A grammar.Fault → Type 0
 Halts (ends.Fault line reason) said = said ≡ Err (record { line = line; reason = reason })
 Halts ends.OutOfMemory said = Unit {0}
 

@@ -3,6 +3,7 @@
 
 mod actions;
 mod declarations;
+pub mod laws;
 pub mod reader;
 mod variables;
 pub mod words;

@@ -543,7 +543,7 @@ fn copied(alloc: Global, declared: &Declared) -> Result<Declared, OutOfMemory>
 /// Before the first line.
 fn at_start(alloc: Global, start: Option<&Declared>) -> Result<Reading, OutOfMemory>
     requires { IfSome start (λ d. InLimits d.now) }
-    ensures reading { IfOk result (λ r. r ≡ grammar.at_start (option_copied start)) }
+    ensures reading { IfOk result (λ r. r ≡ grammar.at_start (option_copied start.entry)) }
     ensures narrow { IfOk result (λ r. IsNarrow r.declared.shape) }
 {
     let declared = match start {
@@ -574,8 +574,8 @@ pub fn read_script(
     bytes: &[u8],
 ) -> Result<Script, ScriptStop>
     requires { IfSome start (λ d. InLimits d.now) }
-    ensures script { IfOk result (λ s. script_of (option_copied start) bytes.now ≡ Ok (plain_script s)) }
-    ensures fault { IfErr result (λ stop. Halts stop (script_of (option_copied start) bytes.now)) }
+    ensures script { IfOk result (λ s. script_of (option_copied start.entry) bytes.now ≡ Ok (plain_script s)) }
+    ensures fault { IfErr result (λ stop. Halts stop (script_of (option_copied start.entry) bytes.now)) }
     ensures limits { IfOk result (λ s. InLimits s.declared) }
     ensures lines { IfOk result (λ s. All (IsLineOf s.declared) s.lines.items) }
 {

@@ -1,5 +1,5 @@
 // Variables by their names.
-ghost use Rattle.std.specs.Prelude.{◌≡◌, true, Ok, Err, MatchResult};
+ghost use Rattle.std.specs.Prelude.{◌≡◌, true, false, Ok, Err, MatchResult, OnOk};
 ghost use Rattle.std.specs.Option.{option_copied};
 ghost use Rattle.mesh_model.specs.Forms as form;
 ghost use Rattle.mesh_model.specs.Words.{is_name};
@@ -22,7 +22,7 @@ fn find_cell(names: &Names, name: &[u8]) -> Option<u32>
 
 /// Whether the name is there, and is this word.
 fn is_named(name: Option<&str>, word: &[u8]) -> bool
-    ensures { result ≡ form.is_named (option_copied name) word.now }
+    ensures { result ≡ form.is_named (option_copied name.entry) word.now }
 {
     match name {
         Some(name) => name.as_bytes() == word,
@@ -85,7 +85,8 @@ fn text_of(name: &[u8]) -> &str
 /// The word as the name of a further variable, where `full` says that none of its kind may come.
 #[tactic(auto, unfolding(mesh_model::specs::Forms::new_name))]
 pub fn new_name<'a>(names: &Names, full: bool, word: &'a [u8]) -> Result<&'a str, Reason>
-    ensures { MatchResult result (λ s. form.new_name names.now full word.now ≡ Ok s.now) (λ e. form.new_name names.now full word.now ≡ Err e) }
+    ensures name { MatchResult result (λ s. form.new_name names.now full word.now ≡ Ok s.now) (λ e. form.new_name names.now full word.now ≡ Err e) }
+    ensures room { OnOk result (full ≡ false) }
 {
     if !is_name(word) {
         return Err(Reason::BadName);
