@@ -153,11 +153,11 @@ cellvar_within names more ws old apart h =
     let new = new_says names (nat_le 4 (length names.cells)) (word ws 1) w x.1 in
     let free = free_says names w new.free in
     subst (λ (u : VariableNames). AreNames u × AreDifferent u) (same_value (record names { cells = names.cells ++ w ∷ [] }) more x.2) (
-      record { few = one_more names.cells w new.room; cells = all_push _ names.cells w old.cells new.is_one; face = old.face; edge = old.edge },
+      record { few = one_more names.cells w new.room; cells = all_push (λ u. is_name u ≡ true) names.cells w old.cells new.is_one; face = old.face; edge = old.edge },
       record {
-        cells = all_pairs_push _ names.cells w apart.cells free.cells;
-        face = if_also _ _ _ names.face (λ f p q. all_push _ names.cells w p (λ e. q (sym e))) apart.face free.face;
-        edge = if_also _ _ _ names.edge (λ f p q. all_push _ names.cells w p (λ e. q (sym e))) apart.edge free.edge;
+        cells = all_pairs_push (λ a b. a ≢ b) names.cells w apart.cells free.cells;
+        face = if_also (λ f. All (λ c. c ≢ f) names.cells) (λ f. f ≢ w) (λ f. All (λ c. c ≢ f) (names.cells ++ w ∷ [])) names.face (λ f p q. all_push (λ c. c ≢ f) names.cells w p (λ e. q (sym e))) apart.face free.face;
+        edge = if_also (λ f. All (λ c. c ≢ f) names.cells) (λ f. f ≢ w) (λ f. All (λ c. c ≢ f) (names.cells ++ w ∷ [])) names.edge (λ f p q. all_push (λ c. c ≢ f) names.cells w p (λ e. q (sym e))) apart.edge free.edge;
         both = apart.both;
       }
     )
@@ -174,7 +174,7 @@ facevar_within names more ws old apart h =
     let free = free_says names w new.free in
     subst (λ (u : VariableNames). AreNames u × AreDifferent u) (same_value (record names { face = Some w }) more x.2) (
       record { few = old.few; cells = old.cells; face = new.is_one; edge = old.edge },
-      record { cells = apart.cells; face = free.cells; edge = apart.edge; both = if_also _ (λ e. e ≢ w) (λ e. w ≢ e) names.edge (λ e p q same. q (sym same)) free.edge free.edge }
+      record { cells = apart.cells; face = free.cells; edge = apart.edge; both = if_also (λ e. e ≢ w) (λ e. e ≢ w) (λ e. w ≢ e) names.edge (λ e p q same. q (sym same)) free.edge free.edge }
     )
 
 edgevar_within : (names more : VariableNames) (ws : List (List ℕ)) → AreNames names → AreDifferent names → edgevar names ws ≡ Ok more → AreNames more × AreDifferent more

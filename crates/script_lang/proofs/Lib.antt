@@ -1,3 +1,8 @@
 pub mod Places
 pub mod Digits
+pub mod Steps
+pub mod Ranges
+pub mod Declaring
+pub mod Acting
 pub mod Reading
+pub mod Scripts
