@@ -1,6 +1,7 @@
 -- What an accepted script is, and where the first fault is.
-use Rattle.std.proofs.Common.{◌≡◌, ℕ, zero, suc, ◌+◌, ◌^◌, ◌<◌, ◌≤◌, ◌⊎◌, inl, inr, Bool, true, false, not, ◌&&◌, ◌||◌, nat_lt, if◌then◌else◌, List, [], ◌∷◌, ◌++◌, Option, Some, None, Result, Ok, Err, IfSome, IsSome, is_none, length, take, get_or, count_by, All, refl, sym, ap, subst, ◌∙◌, arith}
+use Rattle.std.proofs.Common.{◌≡◌, ℕ, zero, suc, ◌+◌, ◌^◌, ◌<◌, ◌≤◌, ◌⊎◌, inl, inr, Bool, true, false, not, ◌&&◌, ◌||◌, nat_lt, if◌then◌else◌, List, [], ◌∷◌, ◌++◌, Option, Some, None, Result, Ok, Err, IfSome, IsSome, is_none, length, take, get_or, count_by, All, Bor, refl, sym, ap, subst, ◌∙◌, arith}
 use Rattle.std.proofs.lemmas.Bool.Decides.{nat_tests}
+use Rattle.std.specs.Option.{option_copied}
 use Rattle.mesh_model.specs.declared.script.Action.{Action}
 use Rattle.mesh_model.specs.declared.script.Command.{Command}
 use Rattle.mesh_model.specs.declared.script.Declaration.{Declaration}
@@ -213,6 +214,10 @@ pub script_fits : (given : Option Declared) (bytes : List ℕ) (s : PlainScript)
 script_fits given bytes s h =
     let r = read_lines given bytes s h in
     subst (λ (u : PlainScript). All (IsLineOf u.declared) u.lines) r.2 (lines_fit (lines_of bytes) (at_start given) 1 r.0 r.1)
+
+pub given_within : (given : Option (Bor Declared)) → IfSome given (λ d. InLimits d.now) → IfSome (option_copied given) InLimits
+given_within None within = tt
+given_within (Some d) within = within
 
 -- FAULTS
 

@@ -565,19 +565,12 @@ fn at_start(alloc: Global, start: Option<&Declared>) -> Result<Reading, OutOfMem
 /// The most bytes of a script.
 pub const MOST_BYTES: usize = 1 << 20;
 
-/// The script that the bytes say, or the first fault in them. With `start` the declarations are given,
-/// and no line may declare.
+/// The script that the bytes say, or the first fault in them.
 #[tactic(auto, unfolding(mesh_model::specs::Grammar::script_of))]
-pub fn read_script(
-    alloc: Global,
-    start: Option<&Declared>,
-    bytes: &[u8],
-) -> Result<Script, ScriptStop>
+fn read(alloc: Global, start: Option<&Declared>, bytes: &[u8]) -> Result<Script, ScriptStop>
     requires { IfSome start (λ d. InLimits d.now) }
     ensures script { IfOk result (λ s. script_of (option_copied start.entry) bytes.now ≡ Ok (plain_script s)) }
     ensures fault { IfErr result (λ stop. Halts stop (script_of (option_copied start.entry) bytes.now)) }
-    ensures limits { IfOk result (λ s. InLimits s.declared) }
-    ensures lines { IfOk result (λ s. All (IsLineOf s.declared) s.lines.items) }
 {
     if bytes.len() > MOST_BYTES {
         return Err(ScriptStop::Fault {
@@ -602,3 +595,22 @@ pub fn read_script(
         lines: read,
     })
 }
+
+/// The script that the bytes say, or the first fault in them. With `start` the declarations are given,
+/// and no line may declare.
+pub fn read_script(
+    alloc: Global,
+    start: Option<&Declared>,
+    bytes: &[u8],
+) -> Result<Script, ScriptStop>
+    requires { IfSome start (λ d. InLimits d.now) }
+    ensures script { IfOk result (λ s. script_of (option_copied start.entry) bytes.now ≡ Ok (plain_script s)) }
+    ensures fault { IfErr result (λ stop. Halts stop (script_of (option_copied start.entry) bytes.now)) }
+    ensures limits { IfOk result (λ s. InLimits s.declared) }
+    ensures lines { IfOk result (λ s. All (IsLineOf s.declared) s.lines.items) }
+{
+    read(alloc, start, bytes)
+}
+
+#[cfg(test)]
+mod tests;
