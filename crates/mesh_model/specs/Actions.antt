@@ -94,9 +94,9 @@ derefine_block words = do
 unfoldable pub mark : VariableNames → List (List ℕ) → Result Command Reason
 mark names words =
     if bytes_eq (word words 1) (codes "refine") then
-      (if bytes_eq (word words 2) (codes "where") then refine_where names words else refine_block words)
+    (if bytes_eq (word words 2) (codes "where") then refine_where names words else refine_block words)
     else if bytes_eq (word words 1) (codes "derefine") then
-      (if bytes_eq (word words 2) (codes "where") then derefine_where names words else derefine_block words)
+    (if bytes_eq (word words 2) (codes "where") then derefine_where names words else derefine_block words)
     else Err UnknownWord
 
 -- advect VAR NX NY NZ

@@ -24,7 +24,10 @@ pub enum Group {
 #[derive(Clone, Copy, Debug, PartialEq, Eq)]
 pub enum Command {
     /// Every leaf cell of the variable takes the value.
-    FillAll { var: u32, value: i64 },
+    FillAll {
+        var: u32,
+        value: i64,
+    },
     /// Every leaf cell whose whole region lies in the box takes the value. The box holds the cells of
     /// `level` from `low` up to below `high`, by axis.
     FillBox {
@@ -35,27 +38,50 @@ pub enum Command {
         value: i64,
     },
     /// The leaf face takes the value. Its coordinate on its axis is its position.
-    FaceSet { at: FaceAt, value: i64 },
+    FaceSet {
+        at: FaceAt,
+        value: i64,
+    },
     /// The leaf edge takes the value. Its coordinates on the other two axes are its positions.
-    EdgeSet { at: EdgeAt, value: i64 },
+    EdgeSet {
+        at: EdgeAt,
+        value: i64,
+    },
     /// Sets the face variable to the flux of a uniform field with these numbers on the axes.
-    Uniform { b: [i64; 3] },
+    Uniform {
+        b: [i64; 3],
+    },
     /// Marks the leaf for refining.
-    MarkRefine { at: BlockAt },
+    MarkRefine {
+        at: BlockAt,
+    },
     /// Marks the leaf for merging.
-    MarkDerefine { at: BlockAt },
+    MarkDerefine {
+        at: BlockAt,
+    },
     /// Marks for refining every leaf below the greatest level with a content above the number.
-    RefineWhere { var: u32, above: i64 },
+    RefineWhere {
+        var: u32,
+        above: i64,
+    },
     /// Marks for merging every leaf above the least level whose contents are all below the number.
-    DerefineWhere { var: u32, below: i64 },
+    DerefineWhere {
+        var: u32,
+        below: i64,
+    },
     /// Refines and merges as the marks and the level rule ask, and clears the marks.
     Regrid,
     /// Moves the cell variable by one step at these speeds on the axes, in units of 2^-20 of a finest cell.
-    Advect { var: u32, speeds: [i64; 3] },
+    Advect {
+        var: u32,
+        speeds: [i64; 3],
+    },
     /// Sets the face variable to the circulations of the edge variable.
     Curl,
     /// Moves the face variable by one step at these speeds on the axes.
-    Induct { speeds: [i64; 3] },
+    Induct {
+        speeds: [i64; 3],
+    },
     /// Saves an image.
     Checkpoint,
     /// Prints how many nodes and leaves there are.
@@ -69,11 +95,18 @@ pub enum Command {
     /// Prints the events of the last phase.
     PrintTrace,
     /// Prints the numbers of a variable.
-    PrintVar { group: Group },
+    PrintVar {
+        group: Group,
+    },
     /// Prints the numbers of a variable in and round one leaf.
-    PrintGuards { group: Group, at: BlockAt },
+    PrintGuards {
+        group: Group,
+        at: BlockAt,
+    },
     /// Prints the total of a cell variable.
-    Total { var: u32 },
+    Total {
+        var: u32,
+    },
     /// Prints how many leaf cells have a net flux.
     NetFlux,
 }

@@ -159,7 +159,7 @@ cellvar_within names more ws old apart h =
         face = if_also (λ f. All (λ c. c ≢ f) names.cells) (λ f. f ≢ w) (λ f. All (λ c. c ≢ f) (names.cells ++ w ∷ [])) names.face (λ f p q. all_push (λ c. c ≢ f) names.cells w p (λ e. q (sym e))) apart.face free.face;
         edge = if_also (λ f. All (λ c. c ≢ f) names.cells) (λ f. f ≢ w) (λ f. All (λ c. c ≢ f) (names.cells ++ w ∷ [])) names.edge (λ f p q. all_push (λ c. c ≢ f) names.cells w p (λ e. q (sym e))) apart.edge free.edge;
         both = apart.both;
-      }
+      },
     )
   where
     one_more : (xs : List (List ℕ)) (w : List ℕ) → nat_le 4 (length xs) ≡ false → length (xs ++ w ∷ []) ≤ 4
@@ -174,7 +174,7 @@ facevar_within names more ws old apart h =
     let free = free_says names w new.free in
     subst (λ (u : VariableNames). AreNames u × AreDifferent u) (same_value (record names { face = Some w }) more x.2) (
       record { few = old.few; cells = old.cells; face = new.is_one; edge = old.edge },
-      record { cells = apart.cells; face = free.cells; edge = apart.edge; both = if_also (λ e. e ≢ w) (λ e. e ≢ w) (λ e. w ≢ e) names.edge (λ e p q same. q (sym same)) free.edge free.edge }
+      record { cells = apart.cells; face = free.cells; edge = apart.edge; both = if_also (λ e. e ≢ w) (λ e. e ≢ w) (λ e. w ≢ e) names.edge (λ e p q same. q (sym same)) free.edge free.edge },
     )
 
 edgevar_within : (names more : VariableNames) (ws : List (List ℕ)) → AreNames names → AreDifferent names → edgevar names ws ≡ Ok more → AreNames more × AreDifferent more
@@ -186,7 +186,7 @@ edgevar_within names more ws old apart h =
     let free = free_says names w new.free in
     subst (λ (u : VariableNames). AreNames u × AreDifferent u) (same_value (record names { edge = Some w }) more x.2) (
       record { few = old.few; cells = old.cells; face = old.face; edge = new.is_one },
-      record { cells = apart.cells; face = apart.face; edge = free.cells; both = free.face }
+      record { cells = apart.cells; face = apart.face; edge = free.cells; both = free.face },
     )
 
 -- DECLARATIONS

@@ -497,7 +497,11 @@ fn add_line(
 }
 
 /// Reads the lines, the first of which has the number 1.
-fn read_lines(alloc: Global, reading: &mut Reading, lines: &[&[u8]]) -> Result<Vec<Line>, ScriptStop>
+fn read_lines(
+    alloc: Global,
+    reading: &mut Reading,
+    lines: &[&[u8]],
+) -> Result<Vec<Line>, ScriptStop>
     requires few { length lines.now < 2 ^ 32 - 1 }
     requires narrow { IsNarrow reading.old.declared.shape }
     ensures says { IfOk result (λ read. grammar.lines_say reading.old 1 (texts lines.now) ≡ Ok (reading.new, read.items)) }
@@ -582,7 +586,9 @@ fn read(alloc: Global, start: Option<&Declared>, bytes: &[u8]) -> Result<Script,
     let mut reading = at_start(alloc, start)?;
     let read = read_lines(alloc, &mut reading, &lines)?;
     let Reading {
-        declared, ended, ..
+        declared,
+        ended,
+        ..
     } = reading;
     if !ended {
         return Err(ScriptStop::Fault {

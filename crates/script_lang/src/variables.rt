@@ -66,9 +66,7 @@ pub fn variable(names: &Names, word: &[u8]) -> Result<Group, Reason>
 fn is_taken(names: &Names, word: &[u8]) -> bool
     ensures { result ≡ form.is_taken names.now word.now }
 {
-    find_cell(names, word).is_some()
-        || is_named(names.face(), word)
-        || is_named(names.edge(), word)
+    find_cell(names, word).is_some() || is_named(names.face(), word) || is_named(names.edge(), word)
 }
 
 /// The name as text.
