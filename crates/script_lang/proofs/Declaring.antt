@@ -1,21 +1,20 @@
 -- What declarations leave within the limits.
-use Rattle.std.proofs.Common.{◌≡◌, ◌≢◌, ℕ, zero, suc, ◌+◌, ◌<◌, ◌≤◌, ◌⊎◌, inl, inr, Bool, true, false, not, ◌&&◌, ◌||◌, ◌==◌, nat_lt, nat_le, if◌then◌else◌, List, [], ◌∷◌, ◌++◌, Option, Some, None, Result, Ok, Err, IfSome, is_some, get_or, length, bytes_eq, All, AllPairs, refl, sym, ap, subst, ◌∙◌, arith, length-append}
+use Rattle.std.proofs.Common.{◌≡◌, ◌≢◌, ℕ, zero, suc, ◌<◌, ◌≤◌, ◌⊎◌, Bool, true, false, not, ◌&&◌, ◌||◌, ◌==◌, nat_lt, nat_le, if◌then◌else◌, List, [], ◌∷◌, ◌++◌, Option, Some, None, Result, Ok, Err, IfSome, is_some, get_or, length, bytes_eq, All, refl, sym, subst, arith, length-append}
 use Rattle.std.proofs.lemmas.Bool.Decides.{nat_tests}
 use Rattle.std.proofs.lemmas.List.Quantifiers.{all_pairs_push}
 use Rattle.std.proofs.lemmas.List.Sums.{fails_before_first}
 use Rattle.std.proofs.lemmas.Slice.Eq.{bytes_eq-Decides}
 use Rattle.std.specs.List.{list_any, position_or_len}
-use Rattle.amr_num.specs.declared.SideKind.{SideKind}
 use Rattle.mesh_model.specs.declared.Shape.{Shape}
 use Rattle.mesh_model.specs.declared.script.Declaration.{Declaration}
 use Rattle.mesh_model.specs.declared.script.Declaration.TheVariants as declaration
 use Rattle.mesh_model.specs.declared.script.Reading.{Reading}
 use Rattle.mesh_model.specs.declared.script.Reason.{Reason}
 use Rattle.mesh_model.specs.declared.script.Reason.TheVariants.{OutOfRange, Unpaired, BadName, NameTaken, TooMany}
-use Rattle.mesh_model.specs.Commands.{IsAcceptedShape, AreSides, AreNames, AreDifferent, InLimits}
+use Rattle.mesh_model.specs.Commands.{IsAcceptedShape, AreNames, AreDifferent, InLimits}
 use Rattle.mesh_model.specs.Coordinates.{is_periodic_kind}
 use Rattle.mesh_model.specs.Declarations.{domain, cells, bounds, levels, cellvar, facevar, edgevar, are_paired}
-use Rattle.mesh_model.specs.Forms.{count, one_of, level, side, cell_named, is_named, is_taken, new_name, check, ◌>>=◌}
+use Rattle.mesh_model.specs.Forms.{count, one_of, level, side, cell_named, is_named, is_taken, new_name, ◌>>=◌}
 use Rattle.mesh_model.specs.Grammar.{declares}
 use Rattle.mesh_model.specs.VariableNames.{VariableNames}
 use Rattle.mesh_model.specs.Words.{word, is_name}

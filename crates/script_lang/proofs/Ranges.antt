@@ -1,5 +1,5 @@
 -- What the words of a command give.
-use Rattle.std.proofs.Common.{◌≡◌, ℕ, zero, suc, ◌+◌, ◌<◌, ◌≤◌, ◌^◌, ◌⊎◌, Bool, true, false, ◌&&◌, ◌||◌, ◌==◌, nat_lt, nat_le, List, [], ◌∷◌, Option, Some, None, Result, Ok, Err, ℤ, pos, negsuc, unsigned_abs, int_le, IsSome, if◌then◌else◌, slice_index, length, bytes_eq, All, refl, subst, arith}
+use Rattle.std.proofs.Common.{◌≡◌, ℕ, zero, suc, ◌+◌, ◌<◌, ◌≤◌, Bool, true, false, ◌&&◌, ◌==◌, nat_lt, nat_le, List, [], ◌∷◌, Option, Some, None, Ok, ℤ, pos, negsuc, unsigned_abs, int_le, IsSome, if◌then◌else◌, slice_index, length, bytes_eq, All, refl, subst, arith}
 use Rattle.std.proofs.lemmas.Bool.Decides.{nat_tests}
 use Rattle.std.proofs.lemmas.List.Quantifiers.{position-Some}
 use Rattle.std.specs.List.{list_any}
@@ -10,12 +10,11 @@ use Rattle.amr_num.specs.declared.Axis.TheVariants.{X, Y, Z}
 use Rattle.mesh_model.specs.declared.Shape.{Shape}
 use Rattle.mesh_model.specs.declared.script.Group.{Group}
 use Rattle.mesh_model.specs.declared.script.Group.TheVariants.{Cell, Face, Edge}
-use Rattle.mesh_model.specs.declared.script.Reason.{Reason}
 use Rattle.mesh_model.specs.declared.script.Reason.TheVariants.{NotNumber, OutOfRange, UnknownVariable}
 use Rattle.mesh_model.specs.Actions.{is_between, is_box}
 use Rattle.mesh_model.specs.Commands.{AreThree, IsPlace, IsBox, IsGroup, axis_index}
 use Rattle.mesh_model.specs.Coordinates.{extent}
-use Rattle.mesh_model.specs.Forms.{number, numbers, count, one_of, level, block, cell_variable, cell_named, is_named, variable, variable_named, check, found, ◌>>=◌}
+use Rattle.mesh_model.specs.Forms.{number, numbers, count, one_of, level, block, cell_variable, cell_named, is_named, variable, variable_named, found}
 use Rattle.mesh_model.specs.VariableNames.{VariableNames}
 use Rattle.mesh_model.specs.Words.{word, number_of}
 use Rattle.script_lang.proofs.Steps.{bound, passed, both, same_value, found_says}

@@ -1,5 +1,5 @@
 -- What the laws of the language say.
-use Rattle.std.specs.Prelude.{◌≡◌, ℕ, suc, ◌+◌, ◌^◌, ◌<◌, ◌≤◌, ◌⊎◌, false, List, [], Option, Ok, Err, length, take, count_by, slice_index_or}
+use Rattle.std.specs.Prelude.{◌≡◌, ℕ, suc, ◌+◌, ◌^◌, ◌<◌, ◌⊎◌, false, List, [], Option, Ok, Err, length, take, count_by, slice_index_or}
 use Rattle.mesh_model.specs.declared.script.Declared.{Declared}
 use Rattle.mesh_model.specs.declared.script.Line.{Line}
 use Rattle.mesh_model.specs.declared.script.Reading.{Reading}
