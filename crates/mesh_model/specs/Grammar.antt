@@ -1,177 +1,32 @@
 -- The language of scripts: what a list of bytes says, or the first fault in it.
-use Rattle.std.specs.Prelude.{ℕ, ◌+◌, ◌^◌, Bool, true, false, not, ◌&&◌, ◌||◌, ◌==◌, nat_lt, nat_le, if◌then◌else◌, List, [], ◌∷◌, ◌++◌, length, replicate, Option, Some, None, Result, Ok, Err, ℤ, pos, unsigned_abs, int_le, codes, bytes_eq, count_by, is_some, position, slice_index}
-use Rattle.std.specs.List.{list_any}
+use Rattle.std.specs.Prelude.{ℕ, ◌+◌, ◌^◌, Bool, true, false, not, ◌&&◌, ◌||◌, ◌==◌, nat_lt, if◌then◌else◌, List, [], ◌∷◌, ◌++◌, length, replicate, Option, Some, None, Result, Ok, Err, codes, bytes_eq, count_by, is_none}
 use Rattle.std.specs.Option.{option_or, option_map}
-use Rattle.amr_num.specs.declared.Axis.TheVariants.{X, Y, Z}
 use Rattle.amr_num.specs.declared.SideKind.TheVariants.{Periodic}
 use Rattle.mesh_model.specs.declared.Shape.{Shape}
-use Rattle.mesh_model.specs.declared.script.Command.{Command}
-use Rattle.mesh_model.specs.declared.script.Command.TheVariants.{FillAll, FillBox, PrintVar, Total}
-use Rattle.mesh_model.specs.declared.script.Declared.{Declared}
-use Rattle.mesh_model.specs.declared.script.Group.{Group}
-use Rattle.mesh_model.specs.declared.script.Group.TheVariants.{Cell}
-use Rattle.mesh_model.specs.declared.script.Keyword.{Keyword}
-use Rattle.mesh_model.specs.declared.script.Keyword.TheVariants.{Declares, Acts, Ends}
-use Rattle.mesh_model.specs.declared.script.Declaration.{Declaration}
-use Rattle.mesh_model.specs.declared.script.Declaration.TheVariants as declaration
 use Rattle.mesh_model.specs.declared.script.Action.{Action}
 use Rattle.mesh_model.specs.declared.script.Action.TheVariants as action
+use Rattle.mesh_model.specs.declared.script.Command.{Command}
+use Rattle.mesh_model.specs.declared.script.Command.TheVariants.{Regrid, Curl, Checkpoint, NetFlux}
+use Rattle.mesh_model.specs.declared.script.Declaration.{Declaration}
+use Rattle.mesh_model.specs.declared.script.Declaration.TheVariants as declaration
+use Rattle.mesh_model.specs.declared.script.Declared.{Declared}
+use Rattle.mesh_model.specs.declared.script.Keyword.{Keyword}
+use Rattle.mesh_model.specs.declared.script.Keyword.TheVariants.{Declares, Acts, Ends}
 use Rattle.mesh_model.specs.declared.script.Line.{Line}
 use Rattle.mesh_model.specs.declared.script.Reading.{Reading}
 use Rattle.mesh_model.specs.declared.script.Reason.{Reason}
-use Rattle.mesh_model.specs.declared.script.Reason.TheVariants.{TooLong, TextAfterEnd, UnknownCommand, DomainMissing, TooLate, Twice, WordCount, UnknownVariable, NotNumber, OutOfRange, UnknownWord, BadName, NameTaken, TooMany, BadBox, EndMissing}
+use Rattle.mesh_model.specs.declared.script.Reason.TheVariants.{TooLong, TextAfterEnd, UnknownCommand, DomainMissing, TooLate, Twice, WordCount, UnknownVariable, EndMissing}
 use Rattle.mesh_model.specs.Commands.{PlainScript}
-use Rattle.mesh_model.specs.Coordinates.{extent}
 use Rattle.mesh_model.specs.VariableNames.{VariableNames, no_names}
-use Rattle.mesh_model.specs.Words.{is_line_end, lines_of, words_of, word, is_passed_over, number_of, is_name}
+use Rattle.mesh_model.specs.Words.{is_line_end, lines_of, words_of, word, is_passed_over}
+use Rattle.mesh_model.specs.Forms.{◌>>=◌, check, found}
+use Rattle.mesh_model.specs.Declarations.{domain, cells, bounds, levels, cellvar, facevar, edgevar}
+use Rattle.mesh_model.specs.Actions.{fill, faceset, edgeset, uniform, mark, advect, induct, print, total}
 
 -- a fault: the number of its line, from 1, and why it is refused
 pub record Fault : Type 0 where
   pub line : ℕ
   pub reason : Reason
-
--- what follows where a step gave a value; a refusal stands
-infixl 10 ◌>>=◌
-abbrev pub ◌>>=◌ : {A B E : Type 0} → Result A E → (A → Result B E) → Result B E
-Ok x >>= f = f x
-Err e >>= f = Err e
-
--- the value, where the test passes
-abbrev pub check : {A : Type 0} → Bool → Reason → A → Result A Reason
-check passes reason x = if passes then Ok x else Err reason
-
--- WORDS
-
-abbrev pub found : {A : Type 0} → Reason → Option A → Result A Reason
-found reason (Some x) = Ok x
-found reason None = Err reason
-
--- a number of absolute value at most `most`
-unfoldable pub number : ℕ → List ℕ → Result ℤ Reason
-number most w = do
-  z ← found NotNumber (number_of w)
-  check (nat_le (unsigned_abs z) most) OutOfRange z
-
--- a number from `low` to `high`
-unfoldable pub count : ℕ → ℕ → List ℕ → Result ℕ Reason
-count low high w = do
-  z ← found NotNumber (number_of w)
-  check (int_le (pos low) z && int_le z (pos high)) OutOfRange (unsigned_abs z)
-
--- one of these numbers, which are at most 8
-unfoldable pub one_of : List ℕ → List ℕ → Result ℕ Reason
-one_of numbers w = do
-  n ← count 0 8 w
-  check (list_any (λ m. m == n) numbers) OutOfRange n
-
--- a number that a leaf may hold
-abbrev pub leaf_number : List ℕ → Result ℤ Reason
-leaf_number = number (2 ^ 40)
-
--- three coordinates, the first at place i
-unfoldable pub point : List (List ℕ) → ℕ → Result (List ℕ) Reason
-point words i = do
-  x ← count 0 65536 (word words i)
-  y ← count 0 65536 (word words (i + 1))
-  z ← count 0 65536 (word words (i + 2))
-  Ok (x ∷ y ∷ z ∷ [])
-
--- that very word
-unfoldable pub fixed : List ℕ → List ℕ → Result (Unit {0}) Reason
-fixed text w = check (bytes_eq w text) UnknownWord tt
-
--- the number of the cell variable with this name
-abbrev pub cell_named : VariableNames → List ℕ → Option ℕ
-cell_named names w = position (λ name. bytes_eq name w) names.cells
-
--- a cell variable
-unfoldable pub cell_variable : VariableNames → List ℕ → Result ℕ Reason
-cell_variable names w = found UnknownVariable (cell_named names w)
-
--- any variable
-unfoldable pub variable : VariableNames → List ℕ → Result Group Reason
-variable names w = do
-  v ← cell_variable names w
-  Ok (Cell v)
-
-abbrev pub is_taken : VariableNames → List ℕ → Bool
-is_taken names w = is_some (cell_named names w)
-
--- a new name of a cell variable
-unfoldable pub new_cell_name : VariableNames → List ℕ → Result (List ℕ) Reason
-new_cell_name names w =
-    if not (is_name w) then Err BadName
-    else if is_taken names w then Err NameTaken
-    else if nat_le 4 (length names.cells) then Err TooMany
-    else Ok w
-
--- DECLARATIONS
-
--- domain RX RY RZ
-unfoldable pub domain : Shape → List (List ℕ) → Result Shape Reason
-domain shape words = do
-  x ← count 1 8 (word words 1)
-  y ← count 1 1 (word words 2)
-  z ← count 1 1 (word words 3)
-  Ok (record shape { rx = x; ry = y; rz = z })
-
--- cells N G
-unfoldable pub cells : Shape → List (List ℕ) → Result Shape Reason
-cells shape words = do
-  n ← one_of (4 ∷ 8 ∷ []) (word words 1)
-  g ← one_of (1 ∷ 2 ∷ 4 ∷ []) (word words 2)
-  Ok (record shape { n = n; g = g })
-
--- cellvar NAME
-unfoldable pub cellvar : VariableNames → List (List ℕ) → Result VariableNames Reason
-cellvar names words = do
-  name ← new_cell_name names (word words 1)
-  Ok (record names { cells = names.cells ++ name ∷ [] })
-
--- ACTIONS
-
--- fill VAR all V
-unfoldable pub fill_all : Declared → List (List ℕ) → Result Command Reason
-fill_all d words = do
-  var ← cell_variable d.names (word words 1)
-  all ← fixed (codes "all") (word words 2)
-  value ← leaf_number (word words 3)
-  Ok (FillAll var value)
-
--- on the axis with index i the box begins below its end, and ends within e cells
-abbrev pub is_between : List ℕ → List ℕ → ℕ → ℕ → Bool
-is_between low high i e = nat_lt (slice_index low i) (slice_index high i) && nat_le (slice_index high i) e
-
--- a box of cells of level l within the domain
-unfoldable pub is_box : Shape → ℕ → List ℕ → List ℕ → Bool
-is_box s l low high = is_between low high 0 (extent s X l) && is_between low high 1 (extent s Y l) && is_between low high 2 (extent s Z l)
-
--- fill VAR box L X0 Y0 Z0 X1 Y1 Z1 V
-unfoldable pub fill_box : Declared → List (List ℕ) → Result Command Reason
-fill_box d words = do
-  var ← cell_variable d.names (word words 1)
-  box ← fixed (codes "box") (word words 2)
-  level ← count 0 0 (word words 3)
-  low ← point words 4
-  high ← point words 7
-  value ← leaf_number (word words 10)
-  check (is_box d.shape level low high) BadBox (FillBox var level low high value)
-
--- fill, with 4 words or with 11
-unfoldable pub fill : Declared → List (List ℕ) → Result Command Reason
-fill d words = if length words == 4 then fill_all d words else fill_box d words
-
--- print VAR
-unfoldable pub print : Declared → List (List ℕ) → Result Command Reason
-print d words = do
-  group ← variable d.names (word words 1)
-  Ok (PrintVar group)
-
--- total VAR
-unfoldable pub total : Declared → List (List ℕ) → Result Command Reason
-total d words = do
-  var ← cell_variable d.names (word words 1)
-  Ok (Total var)
 
 -- THE TABLES: what each line says, by its first word
 
@@ -179,15 +34,40 @@ unfoldable pub declaration_of : List ℕ → Option Declaration
 declaration_of w =
     if bytes_eq w (codes "domain") then Some declaration.Domain
     else if bytes_eq w (codes "cells") then Some declaration.Cells
+    else if bytes_eq w (codes "bounds") then Some declaration.Bounds
+    else if bytes_eq w (codes "levels") then Some declaration.Levels
     else if bytes_eq w (codes "cellvar") then Some declaration.CellVar
+    else if bytes_eq w (codes "facevar") then Some declaration.FaceVar
+    else if bytes_eq w (codes "edgevar") then Some declaration.EdgeVar
     else None
 
-unfoldable pub action_of : List ℕ → Option Action
-action_of w =
+unfoldable pub setting_of : List ℕ → Option Action
+setting_of w =
     if bytes_eq w (codes "fill") then Some action.Fill
-    else if bytes_eq w (codes "print") then Some action.Print
-    else if bytes_eq w (codes "total") then Some action.Total
+    else if bytes_eq w (codes "faceset") then Some action.FaceSet
+    else if bytes_eq w (codes "edgeset") then Some action.EdgeSet
+    else if bytes_eq w (codes "uniform") then Some action.Uniform
+    else if bytes_eq w (codes "mark") then Some action.Mark
     else None
+
+unfoldable pub step_of : List ℕ → Option Action
+step_of w =
+    if bytes_eq w (codes "regrid") then Some action.Regrid
+    else if bytes_eq w (codes "advect") then Some action.Advect
+    else if bytes_eq w (codes "curl") then Some action.Curl
+    else if bytes_eq w (codes "induct") then Some action.Induct
+    else if bytes_eq w (codes "checkpoint") then Some action.Checkpoint
+    else None
+
+unfoldable pub report_of : List ℕ → Option Action
+report_of w =
+    if bytes_eq w (codes "print") then Some action.Print
+    else if bytes_eq w (codes "total") then Some action.Total
+    else if bytes_eq w (codes "netflux") then Some action.NetFlux
+    else None
+
+abbrev pub action_of : List ℕ → Option Action
+action_of w = option_or (option_or (setting_of w) (step_of w)) (report_of w)
 
 unfoldable pub keyword_of : List ℕ → Option Keyword
 keyword_of w = option_or (option_map Declares (declaration_of w)) (option_or (option_map Acts (action_of w)) (if bytes_eq w (codes "end") then Some Ends else None))
@@ -196,12 +76,26 @@ keyword_of w = option_or (option_map Declares (declaration_of w)) (option_or (op
 abbrev pub declaration_has : Declaration → ℕ → Bool
 declaration_has declaration.Domain n = n == 4
 declaration_has declaration.Cells n = n == 3
+declaration_has declaration.Bounds n = n == 7
+declaration_has declaration.Levels n = n == 3
 declaration_has declaration.CellVar n = n == 2
+declaration_has declaration.FaceVar n = n == 2
+declaration_has declaration.EdgeVar n = n == 2
 
 abbrev pub action_has : Action → ℕ → Bool
 action_has action.Fill n = (n == 4) || (n == 11)
-action_has action.Print n = n == 2
+action_has action.FaceSet n = n == 7
+action_has action.EdgeSet n = n == 7
+action_has action.Uniform n = n == 4
+action_has action.Mark n = n == 6
+action_has action.Regrid n = n == 1
+action_has action.Advect n = n == 5
+action_has action.Curl n = n == 1
+action_has action.Induct n = n == 4
+action_has action.Checkpoint n = n == 1
+action_has action.Print n = (n == 2) || (n == 7)
 action_has action.Total n = n == 2
+action_has action.NetFlux n = n == 1
 
 abbrev pub has_count : Keyword → ℕ → Bool
 has_count (Declares d) n = declaration_has d n
@@ -212,32 +106,89 @@ has_count Ends n = n == 1
 abbrev pub is_repeated : Reading → Declaration → Bool
 is_repeated r declaration.Domain = r.domain
 is_repeated r declaration.Cells = r.cells
+is_repeated r declaration.Bounds = r.bounds
+is_repeated r declaration.Levels = r.levels
 is_repeated r declaration.CellVar = false
+is_repeated r declaration.FaceVar = false
+is_repeated r declaration.EdgeVar = false
+
+-- it wants the face variable; the edge variable
+abbrev pub wants_face : Action → Bool
+wants_face action.Fill = false
+wants_face action.FaceSet = true
+wants_face action.EdgeSet = false
+wants_face action.Uniform = true
+wants_face action.Mark = false
+wants_face action.Regrid = false
+wants_face action.Advect = false
+wants_face action.Curl = true
+wants_face action.Induct = true
+wants_face action.Checkpoint = false
+wants_face action.Print = false
+wants_face action.Total = false
+wants_face action.NetFlux = true
+
+abbrev pub wants_edge : Action → Bool
+wants_edge action.Fill = false
+wants_edge action.FaceSet = false
+wants_edge action.EdgeSet = true
+wants_edge action.Uniform = false
+wants_edge action.Mark = false
+wants_edge action.Regrid = false
+wants_edge action.Advect = false
+wants_edge action.Curl = true
+wants_edge action.Induct = false
+wants_edge action.Checkpoint = false
+wants_edge action.Print = false
+wants_edge action.Total = false
+wants_edge action.NetFlux = false
 
 -- what is known after it
-unfoldable pub declares : Reading → Declaration → List (List ℕ) → Result Reading Reason
-declares r declaration.Domain words = do
-  shape ← domain r.declared.shape words
-  Ok (record r { declared = record { shape = shape; names = r.declared.names }; domain = true })
-declares r declaration.Cells words = do
-  shape ← cells r.declared.shape words
-  Ok (record r { declared = record { shape = shape; names = r.declared.names }; cells = true })
-declares r declaration.CellVar words = do
-  names ← cellvar r.declared.names words
+abbrev pub with_shape : Reading → Result Shape Reason → Result Reading Reason
+with_shape r read = do
+  shape ← read
+  Ok (record r { declared = record { shape = shape; names = r.declared.names } })
+
+abbrev pub with_names : Reading → Result VariableNames Reason → Result Reading Reason
+with_names r read = do
+  names ← read
   Ok (record r { declared = record { shape = r.declared.shape; names = names } })
+
+unfoldable pub declares : Reading → Declaration → List (List ℕ) → Result Reading Reason
+declares r declaration.Domain words = with_shape (record r { domain = true }) (domain r.declared.shape words)
+declares r declaration.Cells words = with_shape (record r { cells = true }) (cells r.declared.shape words)
+declares r declaration.Bounds words = with_shape (record r { bounds = true }) (bounds r.declared.shape words)
+declares r declaration.Levels words = with_shape (record r { levels = true }) (levels r.declared.shape words)
+declares r declaration.CellVar words = with_names r (cellvar r.declared.names words)
+declares r declaration.FaceVar words = with_names r (facevar r.declared.names words)
+declares r declaration.EdgeVar words = with_names r (edgevar r.declared.names words)
 
 -- its command
 unfoldable pub acts : Declared → Action → List (List ℕ) → Result Command Reason
 acts d action.Fill words = fill d words
-acts d action.Print words = print d words
-acts d action.Total words = total d words
+acts d action.FaceSet words = faceset words
+acts d action.EdgeSet words = edgeset words
+acts d action.Uniform words = uniform words
+acts d action.Mark words = mark d.names words
+acts d action.Regrid words = Ok Regrid
+acts d action.Advect words = advect d.names words
+acts d action.Curl words = Ok Curl
+acts d action.Induct words = induct words
+acts d action.Checkpoint words = Ok Checkpoint
+acts d action.Print words = print d.names words
+acts d action.Total words = total d.names words
+acts d action.NetFlux words = Ok NetFlux
 
 -- LINES
 
 abbrev pub is_domain : Keyword → Bool
 is_domain (Declares declaration.Domain) = true
 is_domain (Declares declaration.Cells) = false
+is_domain (Declares declaration.Bounds) = false
+is_domain (Declares declaration.Levels) = false
 is_domain (Declares declaration.CellVar) = false
+is_domain (Declares declaration.FaceVar) = false
+is_domain (Declares declaration.EdgeVar) = false
 is_domain (Acts a) = false
 is_domain Ends = false
 
@@ -251,13 +202,20 @@ comes_again r (Declares d) = is_repeated r d
 comes_again r (Acts a) = false
 comes_again r Ends = false
 
--- the line stands where it may, with as many words as it has
+-- a variable that it wants is not declared
+abbrev pub lacks_variable : VariableNames → Keyword → Bool
+lacks_variable names (Declares d) = false
+lacks_variable names (Acts a) = (wants_face a && is_none names.face) || (wants_edge a && is_none names.edge)
+lacks_variable names Ends = false
+
+-- the line stands where it may, with as many words as it has, and its variables are declared
 unfoldable pub placed : Reading → Keyword → ℕ → Result Keyword Reason
 placed r k n =
     if not (r.domain || is_domain k) then Err DomainMissing
     else if is_declaration k && r.acting then Err TooLate
     else if comes_again r k then Err Twice
     else if not (has_count k n) then Err WordCount
+    else if lacks_variable r.declared.names k then Err UnknownVariable
     else Ok k
 
 -- what the first word says, where no step before the other words refuses
@@ -291,9 +249,10 @@ line_of r words = if is_passed_over words then Ok (r, None) else do
 abbrev pub defaults : Declared
 defaults = record { shape = record { rx = 1; ry = 1; rz = 1; n = 8; g = 2; min = 0; max = 3; sides = replicate 6 Periodic }; names = no_names }
 
--- before the first line
-abbrev pub at_start : Reading
-at_start = record { declared = defaults; domain = false; cells = false; acting = false; ended = false }
+-- before the first line, where no declarations are given, and where some are
+abbrev pub at_start : Option Declared → Reading
+at_start None = record { declared = defaults; domain = false; cells = false; bounds = false; levels = false; acting = false; ended = false }
+at_start (Some given) = record { declared = given; domain = true; cells = false; bounds = false; levels = false; acting = true; ended = false }
 
 abbrev pub on_line : {A : Type 0} → ℕ → Result A Reason → Result A Fault
 on_line n (Ok x) = Ok x
@@ -315,9 +274,9 @@ lines_say r n (line ∷ lines) = do
 abbrev pub closed : ℕ → Reading × List Line → Result PlainScript Fault
 closed n read = on_line n (check read.0.ended EndMissing (record { declared = read.0.declared; lines = read.1 }))
 
--- the script that the bytes say, or the first fault
-unfoldable pub script_of : List ℕ → Result PlainScript Fault
-script_of bytes =
+-- the script that the bytes say over the declarations that are given, if any, or the first fault
+unfoldable pub script_of : Option Declared → List ℕ → Result PlainScript Fault
+script_of given bytes =
     if nat_lt (2 ^ 20) (length bytes) then Err (record { line = 0; reason = TooLong }) else do
-      read ← lines_say at_start 1 (lines_of bytes)
+      read ← lines_say (at_start given) 1 (lines_of bytes)
       closed (count_by is_line_end bytes + 1) read

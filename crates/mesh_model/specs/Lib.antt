@@ -22,6 +22,11 @@ pub mod Laws
 pub mod Commands
 pub mod Fill
 pub mod Texts
+pub mod Setting
+pub mod Built
 pub mod Run
 pub mod Words
+pub mod Forms
+pub mod Declarations
+pub mod Actions
 pub mod Grammar

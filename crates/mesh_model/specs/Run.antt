@@ -1,28 +1,72 @@
 -- What commands print and make of a mesh, one after the other.
+--
+-- Only built scripts are run. Where a command that is not built may stop, the mesh after it is that of a run in which it does not.
 use Rattle.std.specs.Prelude.{◌≡◌, ℕ, List, [], ◌∷◌, ◌++◌, ◌+ℤ◌}
 use Rattle.mesh_model.specs.declared.script.Command.{Command}
-use Rattle.mesh_model.specs.declared.script.Command.TheVariants.{FillAll, FillBox, PrintVar, Total}
+use Rattle.mesh_model.specs.declared.script.Command.TheVariants.{FillAll, FillBox, FaceSet, EdgeSet, Uniform, MarkRefine, MarkDerefine, RefineWhere, DerefineWhere, Regrid, Advect, Curl, Induct, Checkpoint, PrintSize, PrintMesh, PrintTree, PrintRanks, PrintTrace, PrintVar, PrintGuards, Total, NetFlux}
 use Rattle.mesh_model.specs.declared.script.Line.{Line}
+use Rattle.mesh_model.specs.Advect.{advect}
 use Rattle.mesh_model.specs.Commands.{PlainScript}
 use Rattle.mesh_model.specs.Fill.{fill_all, fill_box}
+use Rattle.mesh_model.specs.Induct.{curl, induct, uniform}
 use Rattle.mesh_model.specs.Plain.{Mesh}
+use Rattle.mesh_model.specs.Regrid.{regrid}
+use Rattle.mesh_model.specs.Setting.{derefine_where, mark_derefine, mark_refine, refine_where, set_edge, set_face, three}
 use Rattle.mesh_model.specs.Start.{start_mesh}
-use Rattle.mesh_model.specs.Texts.{variable_text, total_text}
+use Rattle.mesh_model.specs.Texts.{guards_text, mesh_text, netflux_text, size_text, total_text, variable_text}
 use Rattle.mesh_model.specs.Totals.{total}
 
--- what a command prints
+-- what a command prints; the texts of a tree, of ranks and of a trace are not given yet, and no built script asks for them
 abbrev pub text_of : Mesh → Command → List ℕ
 text_of m (FillAll var value) = []
 text_of m (FillBox var level low high value) = []
+text_of m (FaceSet at value) = []
+text_of m (EdgeSet at value) = []
+text_of m (Uniform b) = []
+text_of m (MarkRefine at) = []
+text_of m (MarkDerefine at) = []
+text_of m (RefineWhere var above) = []
+text_of m (DerefineWhere var below) = []
+text_of m Regrid = []
+text_of m (Advect var speeds) = []
+text_of m Curl = []
+text_of m (Induct speeds) = []
+text_of m Checkpoint = []
+text_of m PrintSize = size_text m
+text_of m PrintMesh = mesh_text m
+text_of m PrintTree = []
+text_of m PrintRanks = []
+text_of m PrintTrace = []
 text_of m (PrintVar group) = variable_text m group
+text_of m (PrintGuards group at) = guards_text m group at
 text_of m (Total var) = total_text m var
+text_of m NetFlux = netflux_text m
 
 -- the mesh after it
 abbrev pub mesh_after : Mesh → Command → Mesh
 mesh_after m (FillAll var value) = fill_all m var value
 mesh_after m (FillBox var level low high value) = fill_box m var level low high value
+mesh_after m (FaceSet at value) = set_face m at value
+mesh_after m (EdgeSet at value) = set_edge m at value
+mesh_after m (Uniform b) = uniform m (three b)
+mesh_after m (MarkRefine at) = mark_refine m at
+mesh_after m (MarkDerefine at) = mark_derefine m at
+mesh_after m (RefineWhere var above) = refine_where m var above
+mesh_after m (DerefineWhere var below) = derefine_where m var below
+mesh_after m Regrid = regrid m
+mesh_after m (Advect var speeds) = advect m var (three speeds)
+mesh_after m Curl = curl m
+mesh_after m (Induct speeds) = induct m (three speeds)
+mesh_after m Checkpoint = m
+mesh_after m PrintSize = m
+mesh_after m PrintMesh = m
+mesh_after m PrintTree = m
+mesh_after m PrintRanks = m
+mesh_after m PrintTrace = m
 mesh_after m (PrintVar group) = m
+mesh_after m (PrintGuards group at) = m
 mesh_after m (Total var) = m
+mesh_after m NetFlux = m
 
 -- what the commands print, in order
 abbrev pub texts : Mesh → List Line → List ℕ
@@ -42,8 +86,27 @@ AtEachCommand R m (line ∷ lines) = R m line.command (mesh_after m line.command
 abbrev pub Fills : Command → ℕ → Type 0
 Fills (FillAll var value) v = var ≡ v
 Fills (FillBox var level low high value) v = var ≡ v
+Fills (FaceSet at value) v = ⊥
+Fills (EdgeSet at value) v = ⊥
+Fills (Uniform b) v = ⊥
+Fills (MarkRefine at) v = ⊥
+Fills (MarkDerefine at) v = ⊥
+Fills (RefineWhere var above) v = ⊥
+Fills (DerefineWhere var below) v = ⊥
+Fills Regrid v = ⊥
+Fills (Advect var speeds) v = ⊥
+Fills Curl v = ⊥
+Fills (Induct speeds) v = ⊥
+Fills Checkpoint v = ⊥
+Fills PrintSize v = ⊥
+Fills PrintMesh v = ⊥
+Fills PrintTree v = ⊥
+Fills PrintRanks v = ⊥
+Fills PrintTrace v = ⊥
 Fills (PrintVar group) v = ⊥
+Fills (PrintGuards group at) v = ⊥
 Fills (Total var) v = ⊥
+Fills NetFlux v = ⊥
 
 -- the total of a variable and what has flowed out of it are together what they were, unless the command filled it
 abbrev pub KeepsTotals : Mesh → Command → Mesh → Type 0

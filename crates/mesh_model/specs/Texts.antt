@@ -1,20 +1,23 @@
 -- What the reports print of a mesh.
-use Rattle.std.specs.Prelude.{ℕ, ◌+◌, ◌*◌, Bool, List, [], ◌∷◌, ◌++◌, map, flat_map, ℤ, pos, codes, decimal, unwrap_or, slice_index_or}
+use Rattle.std.specs.Prelude.{ℕ, ◌+◌, ◌*◌, ◌==◌, if◌then◌else◌, List, [], ◌∷◌, ◌++◌, length, map, flat_map, ℤ, pos, ◌-ℤ◌, unsigned_abs, codes, decimal, unwrap_or, slice_index_or}
 use Rattle.std.specs.Fmt.{signed_decimal}
 use Rattle.std.specs.List.{join_with_byte, range_with_len}
 use Rattle.amr_num.specs.declared.Axis.{Axis}
 use Rattle.amr_num.specs.declared.Axis.TheVariants.{X, Y, Z}
 use Rattle.amr_num.specs.declared.BlockAt.{BlockAt}
 use Rattle.amr_num.specs.declared.CellAt.{CellAt}
-use Rattle.amr_num.specs.declared.FaceAt.{FaceAt}
-use Rattle.amr_num.specs.declared.EdgeAt.{EdgeAt}
 use Rattle.mesh_model.specs.declared.Shape.{Shape}
 use Rattle.mesh_model.specs.declared.script.Group.{Group}
 use Rattle.mesh_model.specs.declared.script.Group.TheVariants.{Cell, Face, Edge}
+use Rattle.mesh_model.specs.declared.script.Reason.{Reason}
+use Rattle.mesh_model.specs.declared.script.Reason.TheVariants.{TooLong, TextAfterEnd, UnknownCommand, DomainMissing, TooLate, Twice, WordCount, UnknownVariable, NotNumber, OutOfRange, UnknownWord, BadName, NameTaken, TooMany, Unpaired, BadBox, EndMissing}
 use Rattle.mesh_model.specs.Coordinates.{extent, is_periodic, wrapped, on, with, next, face_of, edge_of}
 use Rattle.mesh_model.specs.VariableNames.{VariableNames}
 use Rattle.mesh_model.specs.Plain.{Mesh}
-use Rattle.mesh_model.specs.Totals.{total}
+use Rattle.mesh_model.specs.Circulation.{net_flux}
+use Rattle.mesh_model.specs.GuardValues.{cell_guard, face_guard, edge_guard}
+use Rattle.mesh_model.specs.Order.{nodes}
+use Rattle.mesh_model.specs.Totals.{leaf_sum, total}
 use Rattle.mesh_model.specs.Views.{face_view, edge_view}
 
 -- a line of words: one space between each two, and one line feed at the end
@@ -109,3 +112,64 @@ variable_text m Edge = flat_map (λ b. flat_map (edge_block_text m b) (X ∷ Y �
 -- the total of a cell variable, and what has flowed out
 abbrev pub total_text : Mesh → ℕ → List ℕ
 total_text m v = text_line (codes "total" ∷ group_name m.names (Cell v) ∷ signed_decimal (total m.grid (m.cells v)) ∷ codes "out" ∷ signed_decimal (m.outs v) ∷ [])
+
+-- how many nodes and leaves there are
+unfoldable pub size_text : Mesh → List ℕ
+size_text m = text_line (codes "mesh" ∷ codes "nodes" ∷ decimal (length (nodes m.grid.leaves)) ∷ codes "leaves" ∷ decimal (length m.grid.leaves) ∷ [])
+
+-- the same line, and the leaves
+abbrev pub leaf_text : BlockAt → List ℕ
+leaf_text b = text_line (codes "leaf" ∷ decimal b.level ∷ decimal b.x ∷ decimal b.y ∷ decimal b.z ∷ [])
+
+unfoldable pub mesh_text : Mesh → List ℕ
+mesh_text m = size_text m ++ flat_map leaf_text m.grid.leaves
+
+-- how many leaf cells have a net flux
+unfoldable pub netflux_text : Mesh → List ℕ
+netflux_text m =
+    let counted : CellAt → ℤ = λ c. if unsigned_abs (net_flux m.grid (face_view m.grid m.faces) c) == 0 then pos 0 else pos 1 in
+    text_line (codes "netflux" ∷ group_name m.names Face ∷ codes "cells" ∷ signed_decimal (leaf_sum m.grid counted) ∷ [])
+
+-- the coordinate on an axis of the i-th place, from 0, of a block with its g guards, where the block is the b-th and has n cells
+abbrev pub guard_index : ℕ → ℕ → ℕ → ℕ → ℤ
+guard_index n g b i = pos (n * b + i) -ℤ pos g
+
+-- the numbers of a variable in and round a leaf
+unfoldable pub guards_text : Mesh → Group → BlockAt → List ℕ
+guards_text m (Cell v) b =
+    let n = m.grid.shape.n in
+    let g = m.grid.shape.g in
+    text_line (codes "guards" ∷ group_name m.names (Cell v) ∷ block_words b)
+    ++ array_text (n + 2 * g) (n + 2 * g) (n + 2 * g) (λ i j k. cell_guard m.grid (m.cells v) b.level (guard_index n g b.x i) (guard_index n g b.y j) (guard_index n g b.z k))
+guards_text m Face b =
+    let n = m.grid.shape.n in
+    let g = m.grid.shape.g in
+    flat_map (λ a. text_line (codes "guards" ∷ group_name m.names Face ∷ axis_name a ∷ block_words b)
+      ++ array_text (longer_on a X n + 2 * g) (longer_on a Y n + 2 * g) (longer_on a Z n + 2 * g) (λ i j k. face_guard m.grid m.faces a b.level (guard_index n g b.x i) (guard_index n g b.y j) (guard_index n g b.z k))) (X ∷ Y ∷ Z ∷ [])
+guards_text m Edge b =
+    let n = m.grid.shape.n in
+    let g = m.grid.shape.g in
+    flat_map (λ a. text_line (codes "guards" ∷ group_name m.names Edge ∷ axis_name a ∷ block_words b)
+      ++ array_text (longer_across a X n + 2 * g) (longer_across a Y n + 2 * g) (longer_across a Z n + 2 * g) (λ i j k. edge_guard m.grid m.edges a b.level (guard_index n g b.x i) (guard_index n g b.y j) (guard_index n g b.z k))) (X ∷ Y ∷ Z ∷ [])
+
+-- ---- why a script is refused
+
+-- the reason as it is printed
+abbrev pub reason_text : Reason → List ℕ
+reason_text TooLong = codes "too long"
+reason_text TextAfterEnd = codes "text after end"
+reason_text UnknownCommand = codes "unknown command"
+reason_text DomainMissing = codes "domain missing"
+reason_text TooLate = codes "declaration too late"
+reason_text Twice = codes "declared twice"
+reason_text WordCount = codes "wrong number of words"
+reason_text UnknownVariable = codes "unknown variable"
+reason_text NotNumber = codes "not a number"
+reason_text OutOfRange = codes "number out of range"
+reason_text UnknownWord = codes "unknown word"
+reason_text BadName = codes "bad name"
+reason_text NameTaken = codes "name taken"
+reason_text TooMany = codes "too many variables"
+reason_text Unpaired = codes "periodic must pair"
+reason_text BadBox = codes "bad box"
+reason_text EndMissing = codes "end missing"

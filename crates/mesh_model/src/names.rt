@@ -1,4 +1,4 @@
-ghost use Rattle.std.specs.Prelude.{◌≡◌, ℕ, ◌<◌, ◌≤◌, List, [], ◌∷◌, ◌++◌, length, map, slice_get, OnOk, OnErr, Option, Some, None};
+ghost use Rattle.std.specs.Prelude.{◌≡◌, ℕ, ◌<◌, ◌≤◌, List, [], ◌∷◌, ◌++◌, length, map, slice_get, IfOk, OnOk, OnErr, Option, Some, None};
 ghost use Rattle.std.specs.Option.{option_copied, option_map};
 ghost use Rattle.mesh_model.specs.VariableNames.{no_names};
 
@@ -83,6 +83,23 @@ impl Names {
         }
     }
 
+    /// The same names, kept on their own.
+    pub fn try_clone(&self, alloc: Global) -> Result<Names, OutOfMemory>
+        ensures { IfOk result (λ names. names ≡ self.now) }
+    {
+        let mut names = Names::new(alloc);
+        for v in 0..self.cells() {
+            names.add_cell(alloc, self.cell(v))?;
+        }
+        if let Some(name) = self.face() {
+            names.set_face(alloc, name)?;
+        }
+        if let Some(name) = self.edge() {
+            names.set_edge(alloc, name)?;
+        }
+        Ok(names)
+    }
+
     /// Declares the cell variable `name`, after those before.
     pub fn add_cell(&mut self, alloc: Global, name: &str) -> Result<(), OutOfMemory>
         requires room { length self.old.cells < CELL_VARIABLES }
@@ -96,6 +113,34 @@ impl Names {
         };
         match self.cells.push(name) {
             Ok(()) => Ok(()),
+            Err(_) => Err(OutOfMemory),
+        }
+    }
+
+    /// Declares the face variable `name`.
+    pub fn set_face(&mut self, alloc: Global, name: &str) -> Result<(), OutOfMemory>
+        ensures ok { OnOk result (self.new ≡ record self.old { face = Some name.now }) }
+        ensures err { OnErr result (self.new ≡ self.old) }
+    {
+        match String::from_str(alloc, name) {
+            Ok(name) => {
+                self.face = Some(name);
+                Ok(())
+            }
+            Err(_) => Err(OutOfMemory),
+        }
+    }
+
+    /// Declares the edge variable `name`.
+    pub fn set_edge(&mut self, alloc: Global, name: &str) -> Result<(), OutOfMemory>
+        ensures ok { OnOk result (self.new ≡ record self.old { edge = Some name.now }) }
+        ensures err { OnErr result (self.new ≡ self.old) }
+    {
+        match String::from_str(alloc, name) {
+            Ok(name) => {
+                self.edge = Some(name);
+                Ok(())
+            }
             Err(_) => Err(OutOfMemory),
         }
     }

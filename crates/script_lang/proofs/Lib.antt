@@ -1,4 +1,8 @@
 pub mod Places
 pub mod Digits
+pub mod Steps
+pub mod Ranges
+pub mod Declaring
+pub mod Acting
 pub mod Reading
-pub mod Laws
+pub mod Scripts

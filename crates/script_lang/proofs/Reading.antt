@@ -1,16 +1,18 @@
 -- One line after another.
-use Rattle.std.proofs.Common.{◌≡◌, ℕ, zero, suc, ◌+◌, ◌^◌, ◌<◌, ◌≤◌, false, nat_lt, List, [], ◌∷◌, ◌++◌, Option, Result, Ok, Err, length, get_or, drop, refl, sym, ap, subst, ◌∙◌, arith, append_assoc, append-nil, count_by, Bor}
+use Rattle.std.proofs.Common.{◌≡◌, ℕ, zero, suc, ◌+◌, ◌^◌, ◌<◌, ◌≤◌, false, nat_lt, List, [], ◌∷◌, ◌++◌, Option, Result, Ok, Err, length, get_or, drop, refl, sym, ap, subst, ◌∙◌, arith, append_assoc, count_by, Bor}
 use Rattle.mesh_model.specs.declared.script.Command.{Command}
+use Rattle.mesh_model.specs.declared.script.Declared.{Declared}
 use Rattle.mesh_model.specs.declared.script.Line.{Line}
 use Rattle.mesh_model.specs.declared.script.Reading.{Reading}
 use Rattle.mesh_model.specs.declared.script.Reason.{Reason}
 use Rattle.mesh_model.specs.declared.script.Reason.TheVariants.{EndMissing}
 use Rattle.std.proofs.lemmas.Bool.Decides.{nat_tests}
-use Rattle.mesh_model.specs.Grammar.{Fault, Said, line_of, lines_say, at_start, script_of, on_line, numbered, ◌>>=◌}
+use Rattle.mesh_model.specs.Forms.{◌>>=◌}
+use Rattle.mesh_model.specs.Grammar.{Fault, Said, line_of, lines_say, at_start, script_of, on_line, numbered}
 use Rattle.mesh_model.specs.Words.{words_of, lines_of, is_line_end}
 use Rattle.script_lang.specs.Answers.{texts, Stopped, Halts}
-use Rattle.script_lang.specs.declared.reader.Halt.{Halt}
-use Rattle.script_lang.specs.declared.reader.Halt.TheVariants as halt
+use Rattle.script_lang.specs.declared.reader.ScriptStop.{ScriptStop}
+use Rattle.script_lang.specs.declared.reader.ScriptStop.TheVariants as ends
 use Rattle.std.proofs.lemmas.List.{length-map}
 use Rattle.std.proofs.lemmas.List.Splits.{length-slice_split}
 
@@ -44,27 +46,18 @@ module _ (r : Reading) (n : ℕ) (ls : List (Bor (List ℕ))) (i : ℕ) (d : Bor
       let next : suc i ≡ i + 1 = omega arith in
       subst (λ k. read_after (front ++ numbered n c) (lines_say after (n + 1) (drop k (texts ls))) ≡ all) next (one_more front (numbered n c) (lines_say after (n + 1) (drop (suc i) (texts ls))) ∙ ap (λ said. read_after front (onto n (drop (suc i) (texts ls)) said)) (sym e) ∙ here)
 
-past_end : (r : Reading) (n : ℕ) (ls : List (Bor (List ℕ))) (i : ℕ) → length ls < suc i → lines_say r n (drop i (texts ls)) ≡ Ok (r, [])
-past_end r n [] zero h = refl
-past_end r n [] (suc i) h = refl
-past_end r n (x ∷ ls) zero h = absurd (omega arith)
-past_end r n (x ∷ ls) (suc i) h = past_end r n ls i (omega arith)
-
-pub ends : (r : Reading) (n : ℕ) (ls : List (Bor (List ℕ))) (i : ℕ) (front : List Line) (all : Result (Reading × List Line) Fault) → length ls < suc i → read_after front (lines_say r n (drop i (texts ls))) ≡ all → all ≡ Ok (r, front)
-ends r n ls i front all h so_far = sym so_far ∙ ap (read_after front) (past_end r n ls i h) ∙ ap (λ ls. Ok (r, ls)) (append-nil front)
-
 pub line_count : (ls : List (Bor (List ℕ))) (bytes : List ℕ) → texts ls ≡ lines_of bytes → length ls ≡ count_by is_line_end bytes + 1
 unfolding lines_of
 line_count ls bytes e = sym (length-map ls (λ x. x.now)) ∙ ap length e ∙ length-slice_split is_line_end bytes
 
 -- a stop at line n ends the reading
-pub halted : (stop : Halt) (n : ℕ) (said : Result Said Reason) (all : Result (Reading × List Line) Fault) → Stopped stop n said → ((reason : Reason) → said ≡ Err reason → all ≡ Err (record { line = n; reason = reason })) → Halts stop all
-halted (halt.Fault line reason) n said all h ends = ends reason h.1 ∙ ap (λ k. Err (record { line = k; reason = reason })) (sym h.0)
-halted halt.OutOfMemory n said all h ends = tt
+pub halted : (stop : ScriptStop) (n : ℕ) (said : Result Said Reason) (all : Result (Reading × List Line) Fault) → Stopped stop n said → ((reason : Reason) → said ≡ Err reason → all ≡ Err (record { line = n; reason = reason })) → Halts stop all
+halted (ends.Fault line reason) n said all h stopped = stopped reason h.1 ∙ ap (λ k. Err (record { line = k; reason = reason })) (sym h.0)
+halted ends.OutOfMemory n said all h stopped = tt
 
-pub missing : (bytes : List ℕ) (ls : List (Bor (List ℕ))) (last : Reading) (read : List Line) (n : ℕ) → length bytes ≤ 2 ^ 20 → texts ls ≡ lines_of bytes → lines_say at_start 1 (texts ls) ≡ Ok (last, read) → last.ended ≡ false → n ≡ length ls → script_of bytes ≡ Err (record { line = n; reason = EndMissing })
+pub missing : (given : Option Declared) (bytes : List ℕ) (ls : List (Bor (List ℕ))) (last : Reading) (read : List Line) (n : ℕ) → length bytes ≤ 2 ^ 20 → texts ls ≡ lines_of bytes → lines_say (at_start given) 1 (texts ls) ≡ Ok (last, read) → last.ended ≡ false → n ≡ length ls → script_of given bytes ≡ Err (record { line = n; reason = EndMissing })
 unfolding script_of
-missing bytes ls last read n short split say lacking counted =
+missing given bytes ls last read n short split say lacking counted =
     let few : nat_lt (2 ^ 20) (length bytes) ≡ false = grind (arith, nat_tests) in
     let is : n ≡ count_by is_line_end bytes + 1 = counted ∙ line_count ls bytes split in
     rw (few, ← split, say, lacking, is) refl

@@ -8,8 +8,8 @@ use Rattle.mesh_model.specs.declared.script.Line.{Line}
 use Rattle.mesh_model.specs.declared.script.Reading.{Reading}
 use Rattle.mesh_model.specs.Grammar as grammar
 use Rattle.mesh_model.specs.Grammar.{Said, numbered}
-use Rattle.script_lang.specs.declared.reader.Halt.{Halt}
-use Rattle.script_lang.specs.declared.reader.Halt.TheVariants as halt
+use Rattle.script_lang.specs.declared.reader.ScriptStop.{ScriptStop}
+use Rattle.script_lang.specs.declared.reader.ScriptStop.TheVariants as ends
 use Rattle.script_lang.specs.declared.reader.Stop.{Stop}
 use Rattle.script_lang.specs.declared.reader.Stop.TheVariants.{Fault, OutOfMemory}
 
@@ -31,15 +31,15 @@ Answers view (Err stop) said = Refuses stop said
 abbrev pub Adds : Result Said Reason → Reading → ℕ → List Line → List Line → Type 0
 Adds said after n before lines = (c : Option Command) × (said ≡ Ok (after, c)) × (lines ≡ before ++ numbered n c)
 
--- a halt is the language's refusal of line n, unless memory ran out
-abbrev pub Stopped : Halt → ℕ → Result Said Reason → Type 0
-Stopped (halt.Fault line reason) n said = (line ≡ n) × (said ≡ Err reason)
-Stopped halt.OutOfMemory n said = Unit {0}
+-- a stop is the language's refusal of line n, unless memory ran out
+abbrev pub Stopped : ScriptStop → ℕ → Result Said Reason → Type 0
+Stopped (ends.Fault line reason) n said = (line ≡ n) × (said ≡ Err reason)
+Stopped ends.OutOfMemory n said = Unit {0}
 
--- a halt is the fault that the language gives, unless memory ran out
-abbrev pub Halts : {A : Type 0} → Halt → Result A grammar.Fault → Type 0
-Halts (halt.Fault line reason) said = said ≡ Err (record { line = line; reason = reason })
-Halts halt.OutOfMemory said = Unit {0}
+-- a stop is the fault that the language gives, unless memory ran out
+abbrev pub Halts : {A : Type 0} → ScriptStop → Result A grammar.Fault → Type 0
+Halts (ends.Fault line reason) said = said ≡ Err (record { line = line; reason = reason })
+Halts ends.OutOfMemory said = Unit {0}
 
 -- no axis has more than eight roots, nor a root more than eight cells
 pub record IsNarrow (s : Shape) : Type 0 where

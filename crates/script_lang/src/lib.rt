@@ -1,8 +1,11 @@
 // The language of scripts.
 #![tactic(auto)]
 
-mod commands;
+mod actions;
+mod declarations;
+pub mod laws;
 pub mod reader;
+mod variables;
 pub mod words;
 
 pub use mesh_model::names::Names;

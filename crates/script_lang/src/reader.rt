@@ -1,14 +1,16 @@
 // Reading a script, line by line.
-ghost use Rattle.std.specs.Prelude.{◌≡◌, ℕ, ◌<◌, ◌≤◌, ◌^◌, ◌-◌, true, false, length, IfOk, IfErr, Option, Ok, Err, All};
+ghost use Rattle.std.specs.Prelude.{◌≡◌, ℕ, ◌<◌, ◌≤◌, ◌^◌, ◌-◌, true, false, length, IfOk, IfErr, IfSome, Option, Ok, Err, All};
+ghost use Rattle.std.specs.Option.{option_copied};
 ghost use Rattle.mesh_model.specs.Grammar as grammar;
-ghost use Rattle.mesh_model.specs.Grammar.{Fault, script_of};
+ghost use Rattle.mesh_model.specs.Grammar.{script_of};
 ghost use Rattle.mesh_model.specs.Words as plain;
 ghost use Rattle.mesh_model.specs.Commands.{plain_script, InLimits, IsLineOf};
 ghost use Rattle.script_lang.specs.Answers.{texts, Answers, Adds, Stopped, Halts, IsNarrow};
 
-use crate::commands::{cells, cellvar, domain, fill, print, total, word};
-use crate::words::{lines_of, words_of};
-use amr_num::SideKind;
+use crate::actions::{advect, edgeset, faceset, fill, induct, mark, print, total, uniform};
+use crate::declarations::{bounds, cells, cellvar, domain, edgevar, facevar, levels};
+use crate::words::{lines_of, word, words_of};
+use amr_num::{OutOfMemory, SideKind};
 use mesh_model::Shape;
 use mesh_model::names::Names;
 use mesh_model::script::{
@@ -19,10 +21,31 @@ use std::alloc::{AllocError, Global};
 /// Why no script was read.
 #[derive(Clone, Copy, Debug, PartialEq, Eq)]
 pub enum ScriptStop {
-    /// The bytes are no script of the language.
-    Refused,
+    /// The first fault: the number of its line, from 1, and why it is refused. Line 0 stands for the
+    /// whole script.
+    Fault { line: u32, reason: Reason },
     /// Memory was refused.
     OutOfMemory,
+}
+
+impl From<AllocError> for ScriptStop {
+    ghost use Rattle.script_lang.specs.declared.reader.ScriptStop.TheVariants.{OutOfMemory};
+
+    ghost from_gives = { λ _ stop. stop ≡ OutOfMemory };
+
+    fn from(_: AllocError) -> Self {
+        ScriptStop::OutOfMemory
+    }
+}
+
+impl From<OutOfMemory> for ScriptStop {
+    ghost use Rattle.script_lang.specs.declared.reader.ScriptStop.TheVariants as ends;
+
+    ghost from_gives = { λ _ stop. stop ≡ ends.OutOfMemory };
+
+    fn from(_: OutOfMemory) -> Self {
+        ScriptStop::OutOfMemory
+    }
 }
 
 /// What stops the reading of a line.
@@ -39,6 +62,16 @@ impl From<Reason> for Stop {
 
     fn from(reason: Reason) -> Self {
         Stop::Fault(reason)
+    }
+}
+
+impl From<OutOfMemory> for Stop {
+    ghost use Rattle.script_lang.specs.declared.reader.Stop.TheVariants as ends;
+
+    ghost from_gives = { λ _ stop. stop ≡ ends.OutOfMemory };
+
+    fn from(_: OutOfMemory) -> Self {
+        Stop::OutOfMemory
     }
 }
 
@@ -62,26 +95,88 @@ fn declaration_of(word: &[u8]) -> Option<Declaration>
     if word == b"cells".as_slice() {
         return Some(Declaration::Cells);
     }
+    if word == b"bounds".as_slice() {
+        return Some(Declaration::Bounds);
+    }
+    if word == b"levels".as_slice() {
+        return Some(Declaration::Levels);
+    }
     if word == b"cellvar".as_slice() {
         return Some(Declaration::CellVar);
+    }
+    if word == b"facevar".as_slice() {
+        return Some(Declaration::FaceVar);
+    }
+    if word == b"edgevar".as_slice() {
+        return Some(Declaration::EdgeVar);
     }
     None
 }
 
-#[tactic(auto, unfolding(mesh_model::specs::Grammar::action_of))]
-fn action_of(word: &[u8]) -> Option<Action>
-    ensures { result ≡ grammar.action_of word.now }
+#[tactic(auto, unfolding(mesh_model::specs::Grammar::setting_of))]
+fn setting_of(word: &[u8]) -> Option<Action>
+    ensures { result ≡ grammar.setting_of word.now }
 {
     if word == b"fill".as_slice() {
         return Some(Action::Fill);
     }
+    if word == b"faceset".as_slice() {
+        return Some(Action::FaceSet);
+    }
+    if word == b"edgeset".as_slice() {
+        return Some(Action::EdgeSet);
+    }
+    if word == b"uniform".as_slice() {
+        return Some(Action::Uniform);
+    }
+    if word == b"mark".as_slice() {
+        return Some(Action::Mark);
+    }
+    None
+}
+
+#[tactic(auto, unfolding(mesh_model::specs::Grammar::step_of))]
+fn step_of(word: &[u8]) -> Option<Action>
+    ensures { result ≡ grammar.step_of word.now }
+{
+    if word == b"regrid".as_slice() {
+        return Some(Action::Regrid);
+    }
+    if word == b"advect".as_slice() {
+        return Some(Action::Advect);
+    }
+    if word == b"curl".as_slice() {
+        return Some(Action::Curl);
+    }
+    if word == b"induct".as_slice() {
+        return Some(Action::Induct);
+    }
+    if word == b"checkpoint".as_slice() {
+        return Some(Action::Checkpoint);
+    }
+    None
+}
+
+#[tactic(auto, unfolding(mesh_model::specs::Grammar::report_of))]
+fn report_of(word: &[u8]) -> Option<Action>
+    ensures { result ≡ grammar.report_of word.now }
+{
     if word == b"print".as_slice() {
         return Some(Action::Print);
     }
     if word == b"total".as_slice() {
         return Some(Action::Total);
     }
+    if word == b"netflux".as_slice() {
+        return Some(Action::NetFlux);
+    }
     None
+}
+
+fn action_of(word: &[u8]) -> Option<Action>
+    ensures { result ≡ grammar.action_of word.now }
+{
+    setting_of(word).or(step_of(word)).or(report_of(word))
 }
 
 #[tactic(auto, unfolding(mesh_model::specs::Grammar::keyword_of))]
@@ -100,17 +195,47 @@ fn keyword_of(word: &[u8]) -> Option<Keyword>
     None
 }
 
+fn declaration_has(declaration: Declaration, n: usize) -> bool
+    ensures { result ≡ grammar.declaration_has declaration n }
+{
+    match declaration {
+        Declaration::Domain => n == 4,
+        Declaration::Cells => n == 3,
+        Declaration::Bounds => n == 7,
+        Declaration::Levels => n == 3,
+        Declaration::CellVar => n == 2,
+        Declaration::FaceVar => n == 2,
+        Declaration::EdgeVar => n == 2,
+    }
+}
+
+fn action_has(action: Action, n: usize) -> bool
+    ensures { result ≡ grammar.action_has action n }
+{
+    match action {
+        Action::Fill => n == 4 || n == 11,
+        Action::FaceSet => n == 7,
+        Action::EdgeSet => n == 7,
+        Action::Uniform => n == 4,
+        Action::Mark => n == 6,
+        Action::Regrid => n == 1,
+        Action::Advect => n == 5,
+        Action::Curl => n == 1,
+        Action::Induct => n == 4,
+        Action::Checkpoint => n == 1,
+        Action::Print => n == 2 || n == 7,
+        Action::Total => n == 2,
+        Action::NetFlux => n == 1,
+    }
+}
+
 /// Whether the line may have `n` words, with the first.
 fn has_count(keyword: Keyword, n: usize) -> bool
     ensures { result ≡ grammar.has_count keyword n }
 {
     match keyword {
-        Keyword::Declares(Declaration::Domain) => n == 4,
-        Keyword::Declares(Declaration::Cells) => n == 3,
-        Keyword::Declares(Declaration::CellVar) => n == 2,
-        Keyword::Acts(Action::Fill) => n == 4 || n == 11,
-        Keyword::Acts(Action::Print) => n == 2,
-        Keyword::Acts(Action::Total) => n == 2,
+        Keyword::Declares(declaration) => declaration_has(declaration, n),
+        Keyword::Acts(action) => action_has(action, n),
         Keyword::Ends => n == 1,
     }
 }
@@ -122,6 +247,44 @@ fn comes_again(reading: &Reading, keyword: Keyword) -> bool
     match keyword {
         Keyword::Declares(Declaration::Domain) => reading.domain,
         Keyword::Declares(Declaration::Cells) => reading.cells,
+        Keyword::Declares(Declaration::Bounds) => reading.bounds,
+        Keyword::Declares(Declaration::Levels) => reading.levels,
+        _ => false,
+    }
+}
+
+fn wants_face(action: Action) -> bool
+    ensures { result ≡ grammar.wants_face action }
+{
+    match action {
+        Action::FaceSet => true,
+        Action::Uniform => true,
+        Action::Curl => true,
+        Action::Induct => true,
+        Action::NetFlux => true,
+        _ => false,
+    }
+}
+
+fn wants_edge(action: Action) -> bool
+    ensures { result ≡ grammar.wants_edge action }
+{
+    match action {
+        Action::EdgeSet => true,
+        Action::Curl => true,
+        _ => false,
+    }
+}
+
+/// Whether a variable that the line wants is not declared.
+fn lacks_variable(names: &Names, keyword: Keyword) -> bool
+    ensures { result ≡ grammar.lacks_variable names.now keyword }
+{
+    match keyword {
+        Keyword::Acts(action) => {
+            (wants_face(action) && names.face().is_none())
+                || (wants_edge(action) && names.edge().is_none())
+        }
         _ => false,
     }
 }
@@ -162,6 +325,9 @@ fn placed(reading: &Reading, keyword: Keyword, n: usize) -> Result<Keyword, Reas
     if !has_count(keyword, n) {
         return Err(Reason::WordCount);
     }
+    if lacks_variable(&reading.declared.names, keyword) {
+        return Err(Reason::UnknownVariable);
+    }
     Ok(keyword)
 }
 
@@ -180,7 +346,7 @@ fn command_of(reading: &Reading, words: &[&[u8]]) -> Result<Keyword, Reason>
 }
 
 /// Takes what the line declares into `reading`.
-#[tactic(auto, unfolding(mesh_model::specs::Grammar::declares, mesh_model::specs::Grammar::cellvar))]
+#[tactic(auto, unfolding(mesh_model::specs::Grammar::declares))]
 fn declare(
     alloc: Global,
     reading: &mut Reading,
@@ -201,11 +367,25 @@ fn declare(
             reading.declared.shape = cells(reading.declared.shape, words)?;
             reading.cells = true;
         }
+        Declaration::Bounds => {
+            reading.declared.shape = bounds(reading.declared.shape, words)?;
+            reading.bounds = true;
+        }
+        Declaration::Levels => {
+            reading.declared.shape = levels(reading.declared.shape, words)?;
+            reading.levels = true;
+        }
         Declaration::CellVar => {
             let name = cellvar(&reading.declared.names, words)?;
-            if reading.declared.names.add_cell(alloc, name).is_err() {
-                return Err(Stop::OutOfMemory);
-            }
+            reading.declared.names.add_cell(alloc, name)?;
+        }
+        Declaration::FaceVar => {
+            let name = facevar(&reading.declared.names, words)?;
+            reading.declared.names.set_face(alloc, name)?;
+        }
+        Declaration::EdgeVar => {
+            let name = edgevar(&reading.declared.names, words)?;
+            reading.declared.names.set_edge(alloc, name)?;
         }
     }
     Ok(())
@@ -220,8 +400,18 @@ fn act(declared: &Declared, action: Action, words: &[&[u8]]) -> Result<Command, 
 {
     match action {
         Action::Fill => fill(declared, words),
-        Action::Print => print(declared, words),
-        Action::Total => total(declared, words),
+        Action::FaceSet => faceset(words),
+        Action::EdgeSet => edgeset(words),
+        Action::Uniform => uniform(words),
+        Action::Mark => mark(&declared.names, words),
+        Action::Regrid => Ok(Command::Regrid),
+        Action::Advect => advect(&declared.names, words),
+        Action::Curl => Ok(Command::Curl),
+        Action::Induct => induct(words),
+        Action::Checkpoint => Ok(Command::Checkpoint),
+        Action::Print => print(&declared.names, words),
+        Action::Total => total(&declared.names, words),
+        Action::NetFlux => Ok(Command::NetFlux),
     }
 }
 
@@ -279,24 +469,6 @@ fn read_line(alloc: Global, reading: &mut Reading, line: &[u8]) -> Result<Option
     read_words(alloc, reading, keyword, &words)
 }
 
-/// What stops the reading of a script.
-#[derive(Clone, Copy, Debug, PartialEq, Eq)]
-enum Halt {
-    /// A fault on the line with this number, from 1; 0 where it is the script's.
-    Fault { line: u32, reason: Reason },
-    OutOfMemory,
-}
-
-impl From<AllocError> for Halt {
-    ghost use Rattle.script_lang.specs.declared.reader.Halt.TheVariants.{OutOfMemory};
-
-    ghost from_gives = { λ _ halt. halt ≡ OutOfMemory };
-
-    fn from(_: AllocError) -> Self {
-        Halt::OutOfMemory
-    }
-}
-
 /// Reads the line with this number, and adds its command to those before.
 fn add_line(
     alloc: Global,
@@ -304,32 +476,36 @@ fn add_line(
     read: &mut Vec<Line>,
     number: u32,
     line: &[u8],
-) -> Result<(), Halt>
+) -> Result<(), ScriptStop>
     requires narrow { IsNarrow reading.old.declared.shape }
     ensures adds { IfOk result (λ done. Adds (grammar.line_of reading.old (plain.words_of line.now)) reading.new number read.old.items read.new.items) }
-    ensures fault { IfErr result (λ halt. Stopped halt number (grammar.line_of reading.old (plain.words_of line.now))) }
+    ensures fault { IfErr result (λ stop. Stopped stop number (grammar.line_of reading.old (plain.words_of line.now))) }
     ensures narrow { IsNarrow reading.new.declared.shape }
 {
     match read_line(alloc, reading, line) {
         Ok(None) => Ok(()),
         Ok(Some(command)) => match read.push(Line { number, command }) {
             Ok(()) => Ok(()),
-            Err(_) => Err(Halt::OutOfMemory),
+            Err(_) => Err(ScriptStop::OutOfMemory),
         },
-        Err(Stop::Fault(reason)) => Err(Halt::Fault {
+        Err(Stop::Fault(reason)) => Err(ScriptStop::Fault {
             line: number,
             reason,
         }),
-        Err(Stop::OutOfMemory) => Err(Halt::OutOfMemory),
+        Err(Stop::OutOfMemory) => Err(ScriptStop::OutOfMemory),
     }
 }
 
 /// Reads the lines, the first of which has the number 1.
-fn read_lines(alloc: Global, reading: &mut Reading, lines: &[&[u8]]) -> Result<Vec<Line>, Halt>
+fn read_lines(
+    alloc: Global,
+    reading: &mut Reading,
+    lines: &[&[u8]],
+) -> Result<Vec<Line>, ScriptStop>
     requires few { length lines.now < 2 ^ 32 - 1 }
     requires narrow { IsNarrow reading.old.declared.shape }
     ensures says { IfOk result (λ read. grammar.lines_say reading.old 1 (texts lines.now) ≡ Ok (reading.new, read.items)) }
-    ensures halts { IfErr result (λ halt. Halts halt (grammar.lines_say reading.old 1 (texts lines.now))) }
+    ensures fault { IfErr result (λ stop. Halts stop (grammar.lines_say reading.old 1 (texts lines.now))) }
 {
     let mut read = Vec::new(alloc);
     let mut number: u32 = 1;
@@ -340,48 +516,74 @@ fn read_lines(alloc: Global, reading: &mut Reading, lines: &[&[u8]]) -> Result<V
     Ok(read)
 }
 
-/// Before the first line.
-fn at_start(alloc: Global) -> Reading
-    ensures { result ≡ grammar.at_start }
+/// The defaults of what is not declared.
+fn defaults(alloc: Global) -> Declared
+    ensures { result ≡ grammar.defaults }
 {
-    Reading {
-        declared: Declared {
-            shape: Shape {
-                rx: 1,
-                ry: 1,
-                rz: 1,
-                n: 8,
-                g: 2,
-                min: 0,
-                max: 3,
-                sides: [SideKind::Periodic; 6],
-            },
-            names: Names::new(alloc),
+    Declared {
+        shape: Shape {
+            rx: 1,
+            ry: 1,
+            rz: 1,
+            n: 8,
+            g: 2,
+            min: 0,
+            max: 3,
+            sides: [SideKind::Periodic; 6],
         },
-        domain: false,
-        cells: false,
-        acting: false,
-        ended: false,
+        names: Names::new(alloc),
     }
 }
 
-/// The most bytes of a script.
-const MOST_BYTES: usize = 1 << 20;
+fn copied(alloc: Global, declared: &Declared) -> Result<Declared, OutOfMemory>
+    ensures { IfOk result (λ d. d ≡ declared.now) }
+{
+    Ok(Declared {
+        shape: declared.shape,
+        names: declared.names.try_clone(alloc)?,
+    })
+}
 
-/// The script that the bytes say, or their first fault.
+/// Before the first line.
+fn at_start(alloc: Global, start: Option<&Declared>) -> Result<Reading, OutOfMemory>
+    requires { IfSome start (λ d. InLimits d.now) }
+    ensures reading { IfOk result (λ r. r ≡ grammar.at_start (option_copied start.entry)) }
+    ensures narrow { IfOk result (λ r. IsNarrow r.declared.shape) }
+{
+    let declared = match start {
+        Some(given) => copied(alloc, given)?,
+        None => defaults(alloc),
+    };
+    let given = start.is_some();
+    Ok(Reading {
+        declared,
+        domain: given,
+        cells: false,
+        bounds: false,
+        levels: false,
+        acting: given,
+        ended: false,
+    })
+}
+
+/// The most bytes of a script.
+pub const MOST_BYTES: usize = 1 << 20;
+
+/// The script that the bytes say, or the first fault in them.
 #[tactic(auto, unfolding(mesh_model::specs::Grammar::script_of))]
-fn read(alloc: Global, bytes: &[u8]) -> Result<Script, Halt>
-    ensures script { IfOk result (λ s. script_of bytes.now ≡ Ok (plain_script s)) }
-    ensures halts { IfErr result (λ halt. Halts halt (script_of bytes.now)) }
+fn read(alloc: Global, start: Option<&Declared>, bytes: &[u8]) -> Result<Script, ScriptStop>
+    requires { IfSome start (λ d. InLimits d.now) }
+    ensures script { IfOk result (λ s. script_of (option_copied start.entry) bytes.now ≡ Ok (plain_script s)) }
+    ensures fault { IfErr result (λ stop. Halts stop (script_of (option_copied start.entry) bytes.now)) }
 {
     if bytes.len() > MOST_BYTES {
-        return Err(Halt::Fault {
+        return Err(ScriptStop::Fault {
             line: 0,
             reason: Reason::TooLong,
         });
     }
     let lines = lines_of(alloc, bytes)?;
-    let mut reading = at_start(alloc);
+    let mut reading = at_start(alloc, start)?;
     let read = read_lines(alloc, &mut reading, &lines)?;
     let Reading {
         declared,
@@ -389,7 +591,7 @@ fn read(alloc: Global, bytes: &[u8]) -> Result<Script, Halt>
         ..
     } = reading;
     if !ended {
-        return Err(Halt::Fault {
+        return Err(ScriptStop::Fault {
             line: lines.len() as u32,
             reason: Reason::EndMissing,
         });
@@ -400,155 +602,21 @@ fn read(alloc: Global, bytes: &[u8]) -> Result<Script, Halt>
     })
 }
 
-/// The script that the bytes say.
-pub fn read_script(alloc: Global, bytes: &[u8]) -> Result<Script, ScriptStop>
-    ensures script { IfOk result (λ s. script_of bytes.now ≡ Ok (plain_script s)) }
-    ensures refused { result ≡ Err ScriptStop.Refused → (f : Fault) × (script_of bytes.now ≡ Err f) }
+/// The script that the bytes say, or the first fault in them. With `start` the declarations are given,
+/// and no line may declare.
+pub fn read_script(
+    alloc: Global,
+    start: Option<&Declared>,
+    bytes: &[u8],
+) -> Result<Script, ScriptStop>
+    requires { IfSome start (λ d. InLimits d.now) }
+    ensures script { IfOk result (λ s. script_of (option_copied start.entry) bytes.now ≡ Ok (plain_script s)) }
+    ensures fault { IfErr result (λ stop. Halts stop (script_of (option_copied start.entry) bytes.now)) }
     ensures limits { IfOk result (λ s. InLimits s.declared) }
     ensures lines { IfOk result (λ s. All (IsLineOf s.declared) s.lines.items) }
 {
-    match read(alloc, bytes) {
-        Ok(script) => Ok(script),
-        Err(Halt::Fault { .. }) => Err(ScriptStop::Refused),
-        Err(Halt::OutOfMemory) => Err(ScriptStop::OutOfMemory),
-    }
+    read(alloc, start, bytes)
 }
 
 #[cfg(test)]
-mod tests {
-    use super::*;
-    use mesh_model::script::Group;
-    use std::process::Abort;
-    use std::test::Fail;
-
-    const ACCEPTED: &[u8] =
-        b"# a box\ndomain 2 1 1\n\ncells 4 1\r\ncellvar u\n\tcellvar v_2  \nfill u box 0 0 1 2 8 4 4 -7\nfill v_2 all 1099511627776\nprint u\ntotal v_2\nend\n#";
-
-    #[test]
-    fn accepted(rt: HostRuntime) -> Result<(), Fail> {
-        let script = read_script(rt.alloc(), ACCEPTED)?;
-        let shape = script.declared.shape;
-        assert_eq!(rt; (shape.rx, shape.n, shape.g), (2, 4, 1));
-        assert_eq!(rt; script.declared.names.cells(), 2);
-        assert_eq!(rt; script.declared.names.cell(1), "v_2");
-        assert_eq!(rt; script.lines.len(), 4);
-        let fill_box = Command::FillBox {
-            var: 0,
-            level: 0,
-            low: [0, 1, 2],
-            high: [8, 4, 4],
-            value: -7,
-        };
-        assert_eq!(rt;
-            script.lines[0],
-            Line {
-                number: 7,
-                command: fill_box
-            }
-        );
-        let fill_all = Command::FillAll {
-            var: 1,
-            value: 1 << 40,
-        };
-        assert_eq!(rt;
-            script.lines[1],
-            Line {
-                number: 8,
-                command: fill_all
-            }
-        );
-        let print = Command::PrintVar {
-            group: Group::Cell(0),
-        };
-        assert_eq!(rt;
-            script.lines[2],
-            Line {
-                number: 9,
-                command: print
-            }
-        );
-        assert_eq!(rt;
-            script.lines[3],
-            Line {
-                number: 10,
-                command: Command::Total { var: 1 }
-            }
-        );
-        Ok(())
-    }
-
-    fn refuses(rt: &impl Abort, alloc: Global, text: &[u8], line: u32, reason: Reason) {
-        match read(alloc, text) {
-            Ok(_) => panic!(rt; "accepted"),
-            Err(halt) => assert_eq!(rt; halt, Halt::Fault { line, reason }),
-        }
-    }
-
-    #[test]
-    fn refused(rt: HostRuntime) {
-        let table: [(&[u8], u32, Reason); 12] = [
-            (b"", 1, Reason::EndMissing),
-            (b"domain 1 1 1\n", 2, Reason::EndMissing),
-            (b"end", 1, Reason::DomainMissing),
-            (b"domain 1 1 1\nspam", 2, Reason::UnknownCommand),
-            (b"domain 1 1 1\nend\n\nspam", 4, Reason::TextAfterEnd),
-            (b"domain 1 1 1\nend now", 2, Reason::WordCount),
-            (b"domain 1 1 1\ndomain 1 1 1", 2, Reason::Twice),
-            (b"domain 1 1", 1, Reason::WordCount),
-            (b"domain 9 1 1", 1, Reason::OutOfRange),
-            (b"domain 007 1 1", 1, Reason::NotNumber),
-            (b"domain 1 +1 1", 1, Reason::NotNumber),
-            (b"domain 1 1 -0", 1, Reason::NotNumber),
-        ];
-        for (text, line, reason) in table {
-            refuses(&rt, rt.alloc(), text, line, reason);
-        }
-    }
-
-    #[test]
-    fn refused_variables(rt: HostRuntime) {
-        let table: [(&[u8], u32, Reason); 10] = [
-            (b"domain 1 1 1\ncells 5 2", 2, Reason::OutOfRange),
-            (b"domain 1 1 1\ncellvar mesh", 2, Reason::BadName),
-            (
-                b"domain 1 1 1\ncellvar abcdefghijklmnopq",
-                2,
-                Reason::BadName,
-            ),
-            (b"domain 1 1 1\ncellvar u\ncellvar u", 3, Reason::NameTaken),
-            (
-                b"domain 1 1 1\ncellvar a\ncellvar b\ncellvar c\ncellvar d\ncellvar e",
-                6,
-                Reason::TooMany,
-            ),
-            (
-                b"domain 1 1 1\ncellvar u\ntotal u\ncells 4 1",
-                4,
-                Reason::TooLate,
-            ),
-            (
-                b"domain 1 1 1\ncellvar u\nfill v any 1",
-                3,
-                Reason::UnknownVariable,
-            ),
-            (
-                b"domain 1 1 1\ncellvar u\nfill u any 1",
-                3,
-                Reason::UnknownWord,
-            ),
-            (
-                b"domain 1 1 1\ncellvar u\nfill u all 10995116277760000000000000",
-                3,
-                Reason::OutOfRange,
-            ),
-            (
-                b"domain 1 1 1\ncellvar u\nfill u box 0 0 0 0 8 9 8 1",
-                3,
-                Reason::BadBox,
-            ),
-        ];
-        for (text, line, reason) in table {
-            refuses(&rt, rt.alloc(), text, line, reason);
-        }
-    }
-}
+mod tests;

@@ -1,6 +1,7 @@
 use Rattle.std.proofs.Common.{length, sym, ap, ◌∙◌, arith}
 use Rattle.std.proofs.lemmas.List.Sums.{count_by-le-length}
 use Rattle.script_lang.proofs.Reading.{line_count, missing}
+use Rattle.std.specs.Option.{option_copied}
 use Rattle.mesh_model.specs.Words.{is_line_end}
 use Rattle.script_lang.proofs.reader.read.Goals as goal
 
@@ -16,5 +17,5 @@ overflow_cast-result c =
     let few = count_by-le-length is_line_end c.args.bytes.now in
     omega (arith, c.len.ensures)
 
-pub returns-then-not-ended-clause-halts : goal.returns-then-not-ended-clause-halts
-returns-then-not-ended-clause-halts c = missing c.args.bytes.now c.in_ok-lines.lines.items c.read_lines.new.reading c.in_ok-read.read.items c.len.result (omega arith) c.in_ok-lines.ensures (rw (c.at_start-reading.ensures, c.deref.ensures.value) at c.in_ok-read.ensures.says) c.if-not-ended.true (c.len.ensures ∙ sym c.deref.ensures.len ∙ ap length c.deref.ensures.value)
+pub returns-then-not-ended-clause-fault : goal.returns-then-not-ended-clause-fault
+returns-then-not-ended-clause-fault c = missing (option_copied c.args.start) c.args.bytes.now c.in_ok-lines.lines.items c.read_lines.new.reading c.in_ok-read.read.items c.len.result (omega arith) c.in_ok-lines.ensures (rw (c.in_ok-reading.ensures.reading, c.deref.ensures.value) at c.in_ok-read.ensures.says) c.if-not-ended.true (c.len.ensures ∙ sym c.deref.ensures.len ∙ ap length c.deref.ensures.value)

@@ -5,8 +5,8 @@ use Rattle.script_lang.specs.Answers.{texts}
 use Rattle.script_lang.proofs.Reading.{read_after, stops, goes_on, halted}
 use Rattle.script_lang.proofs.reader.read_lines.Goals as goal
 
-pub returns-in_err-add_line-clause-halts : goal.returns-in_err-add_line-clause-halts
-returns-in_err-add_line-clause-halts c =
+pub returns-in_err-add_line-clause-fault : goal.returns-in_err-add_line-clause-fault
+returns-in_err-add_line-clause-fault c =
     let p = err_from_is_err_and c.from_residual.result c.from_residual.ensures.1 in
     rw (p.1, p.2) (halted _ c.loop-line.number _ _ c.in_err-add_line.ensures.fault (λ reason e. stops _ _ c.args.lines.now _ _ (omega arith) _ _ c.loop-line.invariant.read reason e))
 

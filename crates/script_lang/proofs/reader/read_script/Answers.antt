@@ -1,8 +1,10 @@
-use Rattle.script_lang.proofs.Laws.{script_in_limits, script_fits}
+use Rattle.std.proofs.lemmas.Result.{IfOk-weaker}
+use Rattle.std.specs.Option.{option_copied}
+use Rattle.script_lang.proofs.Scripts.{script_in_limits, script_fits, given_within}
 use Rattle.script_lang.proofs.reader.read_script.Goals as goal
 
-pub returns-in-Ok-clause-limits : goal.returns-in-Ok-clause-limits
-returns-in-Ok-clause-limits c = script_in_limits c.args.bytes.now _ c.in-Ok.ensures.script
+pub returns-clause-limits : goal.returns-clause-limits
+returns-clause-limits c = IfOk-weaker c.read.result _ _ (λ s h. script_in_limits (option_copied c.args.start) c.args.bytes.now _ (given_within c.args.start c.requires) h) c.read.ensures.script
 
-pub returns-in-Ok-clause-lines : goal.returns-in-Ok-clause-lines
-returns-in-Ok-clause-lines c = script_fits c.args.bytes.now _ c.in-Ok.ensures.script
+pub returns-clause-lines : goal.returns-clause-lines
+returns-clause-lines c = IfOk-weaker c.read.result _ _ (λ s h. script_fits (option_copied c.args.start) c.args.bytes.now _ h) c.read.ensures.script

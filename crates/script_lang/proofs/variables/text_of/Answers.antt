@@ -1,7 +1,7 @@
 use Rattle.std.proofs.Common.{ap, arith, length}
 use Rattle.std.proofs.lemmas.Str.{IsUtf8-from_ascii}
 use Rattle.script_lang.proofs.Digits.{name_is_ascii, name_is_short}
-use Rattle.script_lang.proofs.commands.text_of.Goals as goal
+use Rattle.script_lang.proofs.variables.text_of.Goals as goal
 
 pub unreachable-requires : goal.unreachable-requires
 unreachable-requires c = c.in-Err.ensures.cases.0 (IsUtf8-from_ascii _ (name_is_ascii _ c.requires))

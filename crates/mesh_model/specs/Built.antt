@@ -1,0 +1,46 @@
+-- What is built: scripts that ask for anything else are not run.
+use Rattle.std.specs.Prelude.{◌≡◌, ℕ, Bool, true, false, ◌&&◌, ◌==◌, nat_le, is_none}
+use Rattle.std.specs.List.{list_all}
+use Rattle.mesh_model.specs.declared.script.Command.{Command}
+use Rattle.mesh_model.specs.declared.script.Command.TheVariants.{FillAll, FillBox, FaceSet, EdgeSet, Uniform, MarkRefine, MarkDerefine, RefineWhere, DerefineWhere, Regrid, Advect, Curl, Induct, Checkpoint, PrintSize, PrintMesh, PrintTree, PrintRanks, PrintTrace, PrintVar, PrintGuards, Total, NetFlux}
+use Rattle.mesh_model.specs.declared.script.Declared.{Declared}
+use Rattle.mesh_model.specs.declared.script.Line.{Line}
+use Rattle.mesh_model.specs.Commands.{PlainScript}
+
+-- the command is built; those on faces and edges are not, since no face or edge variable is
+abbrev pub is_built_command : Command → Bool
+is_built_command (FillAll var value) = true
+is_built_command (FillBox var level low high value) = true
+is_built_command (FaceSet at value) = false
+is_built_command (EdgeSet at value) = false
+is_built_command (Uniform b) = false
+is_built_command (MarkRefine at) = false
+is_built_command (MarkDerefine at) = false
+is_built_command (RefineWhere var above) = false
+is_built_command (DerefineWhere var below) = false
+is_built_command Regrid = false
+is_built_command (Advect var speeds) = false
+is_built_command Curl = false
+is_built_command (Induct speeds) = false
+is_built_command Checkpoint = false
+is_built_command PrintSize = false
+is_built_command PrintMesh = false
+is_built_command PrintTree = false
+is_built_command PrintRanks = false
+is_built_command PrintTrace = false
+is_built_command (PrintVar group) = true
+is_built_command (PrintGuards group at) = false
+is_built_command (Total var) = true
+is_built_command NetFlux = false
+
+-- one root on y and on z, and neither a face nor an edge variable
+unfoldable pub is_built_mesh : Declared → Bool
+is_built_mesh d = (d.shape.ry == 1) && (d.shape.rz == 1) && is_none d.names.face && is_none d.names.edge
+
+-- the script is built for so many ranks and workers: it declares what is built, for one rank and one worker, and all its commands are
+unfoldable pub is_built : PlainScript → ℕ → ℕ → Bool
+is_built s ranks workers = is_built_mesh s.declared && nat_le ranks 1 && nat_le workers 1 && list_all (λ line. is_built_command line.command) s.lines
+
+-- the line is one that a built script may have
+abbrev pub IsBuiltLine : Line → Type 0
+IsBuiltLine line = is_built_command line.command ≡ true
