@@ -42,6 +42,7 @@ impl Engine {
     ghost use Rattle.amr_engine.specs.Plain.{declared_of, plain};
     ghost use Rattle.amr_engine.specs.Printing.{Prints};
     ghost use Rattle.amr_engine.specs.Stopping.{IsCause};
+    ghost use Rattle.mesh_model.specs.Built.{IsBuiltLine};
     ghost use Rattle.mesh_model.specs.Commands.{IsBox, IsCellVariable, IsGroup, IsLineOf};
     ghost use Rattle.mesh_model.specs.Fill.{fill_all as plain_fill_all, fill_box as plain_fill_box};
     ghost use Rattle.mesh_model.specs.Texts.{total_text, variable_text};
@@ -68,7 +69,8 @@ impl Engine {
 
     /// Does the command of a line: changes the mesh, or prints.
     pub fn command<K: Sink, D: Disk>(&mut self, line: &Line, sink: &mut K, disk: &mut D) -> Result<(), Stop>
-        requires { IsLineOf (declared_of self.old) line.now }
+        requires fits { IsLineOf (declared_of self.old) line.now }
+        requires built { IsBuiltLine line.now }
         ensures mesh { OnOk result (plain self.new ≡ mesh_after (plain self.old) line.now.command) }
         ensures text { OnOk result (Takes (K.taken sink.old) (text_of (plain self.old) line.now.command) (K.taken sink.new)) }
         ensures calm { OnOk result (K.faults sink.new ≡ K.faults sink.old) }
@@ -100,6 +102,7 @@ impl Engine {
             }
             Command::PrintVar { group } => self.print_variable(group, sink),
             Command::Total { var } => self.print_total(var, sink),
+            _ => unreachable!(),
         };
         match done {
             Ok(()) => Ok(()),

@@ -61,6 +61,14 @@ impl LineText {
         let _ = self.bytes.extend_from_slice(word.as_bytes());
     }
 
+    /// Adds text to the last word.
+    pub fn push_text(&mut self, text: &str)
+        requires { length self.old + length text.now ≤ LINE_LENGTH }
+        ensures { self.new ≡ self.old ++ text.now }
+    {
+        let _ = self.bytes.extend_from_slice(text.as_bytes());
+    }
+
     /// Begins the line anew with a number.
     pub fn begin_number<I: Integer>(&mut self, number: I)
         ensures text { self.new ≡ I.text number }

@@ -1,12 +1,15 @@
 -- What the clauses of the program say follows from how its run ended.
-use Rattle.std.proofs.Common.{◌≡◌, ◌≢◌, ℕ, ◌<◌, ◌++◌, ◌⊎◌, List, [], ◌∷◌, Option, Some, None, Result, Ok, Err, inl, inr, refl, sym, ap, subst, ◌∙◌, arith, IfSome, take, drop, map}
+use Rattle.std.proofs.Common.{◌≡◌, ◌≢◌, ℕ, Bool, true, false, if◌then◌else◌, ◌<◌, ◌++◌, ◌⊎◌, List, [], ◌∷◌, Option, Some, None, Result, Ok, Err, inl, inr, refl, sym, ap, subst, ◌∙◌, arith, IfSome, take, drop, map}
 use Rattle.mesh_model.specs.Commands.{PlainScript}
+use Rattle.mesh_model.specs.Built.{is_built}
 use Rattle.mesh_model.specs.Grammar.{Fault, script_of}
 use Rattle.outside_io.specs.Moved.{Rose, Takes, TakesPrefix}
 use Rattle.amr_program.specs.declared.status.Status.{Status}
 use Rattle.amr_program.specs.declared.status.Status.TheVariants as status
 use Rattle.amr_program.specs.declared.program.TheConstants.{LIMIT}
-use Rattle.amr_program.specs.Answer.{Answer, IsAccepted, IsAnswer, IsRefused, MayPrint, TookBeforeMemory, TookPart, answer_of, first_texts, plain_answer, script_in}
+use Rattle.amr_program.specs.declared.refusal.Refusal.{Refusal}
+use Rattle.amr_program.specs.declared.refusal.Refusal.TheVariants as refusals
+use Rattle.amr_program.specs.Answer.{Answer, IsAccepted, IsAnswer, IsRefused, MayPrint, TookBeforeMemory, TookPart, admitted, answer_of, first_texts, plain_answer, read_in, script_in}
 use Rattle.amr_program.specs.Lines.{memory_line, read_line, words_line}
 use Rattle.amr_program.specs.Outcome.{Answered, Came, ByMemory, ByRead, ByScript, ByWords, Ended, Failed, Outcome, Source, Starved, Written, Wrote, WrotePart}
 
@@ -28,16 +31,28 @@ no_words text (word ∷ words) e = cc
 -- ---- statuses
 
 -- an answer is Done or Script
-answer_status : (read : Result PlainScript Fault) → ((answer_of read).status ≡ status.Done) ⊎ ((answer_of read).status ≡ status.Script)
+answer_status : (read : Result PlainScript Refusal) → ((answer_of read).status ≡ status.Done) ⊎ ((answer_of read).status ≡ status.Script)
 answer_status (Ok s) = inl refl
 answer_status (Err f) = inr refl
 
-refused_read : (read : Result PlainScript Fault) → (answer_of read).status ≡ status.Script → IsRefused read
-refused_read (Ok s) e = (let odd : status.Done ≡ status.Script = e in cc)
+-- the script by whether it is built
+abbrev admitted_by : Bool → PlainScript → Result PlainScript Refusal
+admitted_by built s = if built then Ok s else Err refusals.NotBuilt
+
+refused_by : (built : Bool) (s : PlainScript) → (answer_of (admitted_by built s)).status ≡ status.Script → built ≡ false
+refused_by true s e = (let odd : status.Done ≡ status.Script = e in cc)
+refused_by false s e = refl
+
+refused_read : (read : Result PlainScript Fault) → (answer_of (admitted read)).status ≡ status.Script → IsRefused read
+refused_read (Ok s) e = refused_by (is_built s 1 1) s e
 refused_read (Err f) e = tt
 
-accepted_read : (read : Result PlainScript Fault) → IsAccepted read → (answer_of read).status ≡ status.Done
-accepted_read (Ok s) h = refl
+accepted_by : (built : Bool) (s : PlainScript) → built ≡ true → (answer_of (admitted_by built s)).status ≡ status.Done
+accepted_by true s h = refl
+accepted_by false s h = cc
+
+accepted_read : (read : Result PlainScript Fault) → IsAccepted read → (answer_of (admitted read)).status ≡ status.Done
+accepted_read (Ok s) h = accepted_by (is_built s 1 1) s h
 accepted_read (Err f) h = absurd h
 
 words_answer : (words : List (List ℕ)) (all : List ℕ) (result : Status) (w : Written) → words ≢ [] → result ≡ status.Words → Takes w.before words_line w.after → IsAnswer (plain_answer words all) result w.before w.after
@@ -60,7 +75,7 @@ module _ (words : List (List ℕ)) (result : Status) (s : Source) (w : Written) 
     | inr e ↦ absurd (calm e.1.rose)
   ]
   answer (inr (inr (inr o))) quiet calm fed = elim o.came [
-    | inl a ↦ carried s.before _ _ o.left (λ all h. subst (λ ws. IsAnswer (plain_answer ws all) result w.before w.after) (sym o.none) (subst (λ b. IsAnswer (answer_of (script_of b)) result w.before w.after) h.0 (record { status_is = a.status_is; text_is = a.wrote.takes })))
+    | inl a ↦ carried s.before _ _ o.left (λ all h. subst (λ ws. IsAnswer (plain_answer ws all) result w.before w.after) (sym o.none) (subst (λ b. IsAnswer (answer_of (admitted (script_of None b))) result w.before w.after) h.0 (record { status_is = a.status_is; text_is = a.wrote.takes })))
     | inr other ↦ elim other [ inl a ↦ absurd (fed a.status_is) | inr a ↦ absurd (calm a.wrote.rose) ]
   ]
 
@@ -69,7 +84,7 @@ module _ (words : List (List ℕ)) (result : Status) (s : Source) (w : Written) 
   words_refused (inr (inl o)) is = elim o.ended [ inl e ↦ absurd (cc e.0) | inr e ↦ absurd (cc e.0) ]
   words_refused (inr (inr (inl o))) is = elim o.ended [ inl e ↦ absurd (cc e.0) | inr e ↦ absurd (cc e.0) ]
   words_refused (inr (inr (inr o))) is = elim o.came [
-    | inl a ↦ elim (answer_status (script_of o.bytes)) [ inl e ↦ absurd (cc (a.status_is, e)) | inr e ↦ absurd (cc (a.status_is, e)) ]
+    | inl a ↦ elim (answer_status (admitted (script_of None o.bytes))) [ inl e ↦ absurd (cc (a.status_is, e)) | inr e ↦ absurd (cc (a.status_is, e)) ]
     | inr other ↦ elim other [ inl a ↦ absurd (cc a.status_is) | inr a ↦ absurd (cc a.status_is) ]
   ]
 
@@ -79,12 +94,12 @@ module _ (words : List (List ℕ)) (result : Status) (s : Source) (w : Written) 
   words_alone (inr (inr (inl o))) some = absurd (some o.none)
   words_alone (inr (inr (inr o))) some = absurd (some o.none)
 
-  pub script_refused : Outcome words result s w → result ≡ status.Script → (words ≡ []) × IfSome s.before (λ bytes. IsRefused (script_in bytes))
+  pub script_refused : Outcome words result s w → result ≡ status.Script → (words ≡ []) × IfSome s.before (λ bytes. IsRefused (read_in bytes))
   script_refused (inl o) is = elim o.ended [ inl e ↦ absurd (cc e.0) | inr e ↦ absurd (cc e.0) ]
   script_refused (inr (inl o)) is = elim o.ended [ inl e ↦ absurd (cc e.0) | inr e ↦ absurd (cc e.0) ]
   script_refused (inr (inr (inl o))) is = elim o.ended [ inl e ↦ absurd (cc e.0) | inr e ↦ absurd (cc e.0) ]
   script_refused (inr (inr (inr o))) is = elim o.came [
-    | inl a ↦ (o.none, carried s.before _ _ o.left (λ all h. subst (λ b. IsRefused (script_of b)) h.0 (refused_read (script_of o.bytes) (sym a.status_is ∙ is))))
+    | inl a ↦ (o.none, carried s.before _ _ o.left (λ all h. subst (λ b. IsRefused (script_of None b)) h.0 (refused_read (script_of None o.bytes) (sym a.status_is ∙ is))))
     | inr other ↦ elim other [ inl a ↦ absurd (cc a.status_is) | inr a ↦ absurd (cc a.status_is) ]
   ]
 
@@ -93,7 +108,7 @@ module _ (words : List (List ℕ)) (result : Status) (s : Source) (w : Written) 
   read_fault (inr (inl o)) is = o.rose
   read_fault (inr (inr (inl o))) is = elim o.ended [ inl e ↦ absurd (cc e.0) | inr e ↦ absurd (cc e.0) ]
   read_fault (inr (inr (inr o))) is = elim o.came [
-    | inl a ↦ elim (answer_status (script_of o.bytes)) [ inl e ↦ absurd (cc (a.status_is, e)) | inr e ↦ absurd (cc (a.status_is, e)) ]
+    | inl a ↦ elim (answer_status (admitted (script_of None o.bytes))) [ inl e ↦ absurd (cc (a.status_is, e)) | inr e ↦ absurd (cc (a.status_is, e)) ]
     | inr other ↦ elim other [ inl a ↦ absurd (cc a.status_is) | inr a ↦ absurd (cc a.status_is) ]
   ]
 
@@ -108,7 +123,7 @@ module _ (words : List (List ℕ)) (result : Status) (s : Source) (w : Written) 
   write_fault (inr (inl o)) is = elim o.ended [ inl e ↦ absurd (cc e.0) | inr e ↦ e.1.rose ]
   write_fault (inr (inr (inl o))) is = elim o.ended [ inl e ↦ absurd (cc e.0) | inr e ↦ e.1.rose ]
   write_fault (inr (inr (inr o))) is = elim o.came [
-    | inl a ↦ elim (answer_status (script_of o.bytes)) [ inl e ↦ absurd (cc (a.status_is, e)) | inr e ↦ absurd (cc (a.status_is, e)) ]
+    | inl a ↦ elim (answer_status (admitted (script_of None o.bytes))) [ inl e ↦ absurd (cc (a.status_is, e)) | inr e ↦ absurd (cc (a.status_is, e)) ]
     | inr other ↦ elim other [ inl a ↦ absurd (cc a.status_is) | inr a ↦ a.wrote.rose ]
   ]
 
@@ -125,7 +140,7 @@ module _ (words : List (List ℕ)) (result : Status) (s : Source) (w : Written) 
     | inr other ↦ elim other [ inl a ↦ (let same = a.wrote.calm in absurd (omega arith)) | inr a ↦ a.status_is ]
   ]
 
-  pub complete : Outcome words result s w → words ≡ [] → ¬ Rose s.faults s.new_faults → ¬ Rose w.faults w.new_faults → IfSome s.before (λ bytes. IsAccepted (script_in bytes) → (result ≡ status.Done) ⊎ (result ≡ status.OutOfMemory))
+  pub complete : Outcome words result s w → words ≡ [] → ¬ Rose s.faults s.new_faults → ¬ Rose w.faults w.new_faults → IfSome s.before (λ bytes. IsAccepted (read_in bytes) → (result ≡ status.Done) ⊎ (result ≡ status.OutOfMemory))
   complete (inl o) none quiet calm = absurd (o.some none)
   complete (inr (inl o)) none quiet calm = absurd (quiet o.rose)
   complete (inr (inr (inl o))) none quiet calm = elim o.ended [
@@ -133,7 +148,7 @@ module _ (words : List (List ℕ)) (result : Status) (s : Source) (w : Written) 
     | inr e ↦ absurd (calm e.1.rose)
   ]
   complete (inr (inr (inr o))) none quiet calm = elim o.came [
-    | inl a ↦ carried s.before _ _ o.left (λ all h accepted. inl (a.status_is ∙ accepted_read (script_of o.bytes) (subst (λ b. IsAccepted (script_of b)) (sym h.0) accepted)))
+    | inl a ↦ carried s.before _ _ o.left (λ all h accepted. inl (a.status_is ∙ accepted_read (script_of None o.bytes) (subst (λ b. IsAccepted (script_of None b)) (sym h.0) accepted)))
     | inr other ↦ elim other [ inl a ↦ always s.before _ (λ all accepted. inr a.status_is) | inr a ↦ absurd (calm a.wrote.rose) ]
   ]
 
@@ -155,21 +170,21 @@ module _ (words : List (List ℕ)) (result : Status) (s : Source) (w : Written) 
     | inr e ↦ always s.before _ (λ all. line_part memory_line e.1 all (inr (inr (0, no_texts (script_in all)))))
   ]
     where
-      no_texts : (read : Result PlainScript Fault) → memory_line ≡ first_texts read 0 ++ memory_line
+      no_texts : (read : Result PlainScript Refusal) → memory_line ≡ first_texts read 0 ++ memory_line
       no_texts (Ok script) = refl
       no_texts (Err fault) = refl
   part (inr (inr (inr o))) is = elim o.came [
-    | inl a ↦ elim (answer_status (script_of o.bytes)) [ inl e ↦ absurd (cc (a.status_is, e)) | inr e ↦ absurd (cc (a.status_is, e)) ]
+    | inl a ↦ elim (answer_status (admitted (script_of None o.bytes))) [ inl e ↦ absurd (cc (a.status_is, e)) | inr e ↦ absurd (cc (a.status_is, e)) ]
     | inr other ↦ elim other [
       | inl a ↦ absurd (cc a.status_is)
       | inr a ↦ carried s.before _ _ o.left (λ all h. (a.text, subst (λ ws. MayPrint ws all a.text) (sym o.none) (may a all h.0), a.wrote.takes))
     ]
   ]
     where
-      may : (a : Failed (script_of o.bytes) result w) (all : List ℕ) → o.bytes ≡ take LIMIT all → MayPrint [] all a.text
+      may : (a : Failed (admitted (script_of None o.bytes)) result w) (all : List ℕ) → o.bytes ≡ take LIMIT all → MayPrint [] all a.text
       may a all e = elim a.text_is [
-        | inl t ↦ inl (t ∙ ap (λ b. (answer_of (script_of b)).text) e)
-        | inr t ↦ inr (inr (t.0, t.1 ∙ ap (λ b. first_texts (script_of b) t.0 ++ memory_line) e))
+        | inl t ↦ inl (t ∙ ap (λ b. (answer_of (admitted (script_of None b))).text) e)
+        | inr t ↦ inr (inr (t.0, t.1 ∙ ap (λ b. first_texts (admitted (script_of None b)) t.0 ++ memory_line) e))
       ]
 
   pub memory : Outcome words result s w → result ≡ status.OutOfMemory → IfSome s.before (λ bytes. TookBeforeMemory bytes w.before w.after)
@@ -180,13 +195,13 @@ module _ (words : List (List ℕ)) (result : Status) (s : Source) (w : Written) 
     | inr e ↦ absurd (cc e.0)
   ]
     where
-      no_texts : (read : Result PlainScript Fault) → memory_line ≡ first_texts read 0 ++ memory_line
+      no_texts : (read : Result PlainScript Refusal) → memory_line ≡ first_texts read 0 ++ memory_line
       no_texts (Ok script) = refl
       no_texts (Err fault) = refl
   memory (inr (inr (inr o))) is = elim o.came [
-    | inl a ↦ elim (answer_status (script_of o.bytes)) [ inl e ↦ absurd (cc (a.status_is, e)) | inr e ↦ absurd (cc (a.status_is, e)) ]
+    | inl a ↦ elim (answer_status (admitted (script_of None o.bytes))) [ inl e ↦ absurd (cc (a.status_is, e)) | inr e ↦ absurd (cc (a.status_is, e)) ]
     | inr other ↦ elim other [
-      | inl a ↦ carried s.before _ _ o.left (λ all h. (a.commands, subst (λ b. Takes w.before (first_texts (script_of b) a.commands ++ memory_line) w.after) h.0 a.wrote.takes))
+      | inl a ↦ carried s.before _ _ o.left (λ all h. (a.commands, subst (λ b. Takes w.before (first_texts (admitted (script_of None b)) a.commands ++ memory_line) w.after) h.0 a.wrote.takes))
       | inr a ↦ absurd (cc a.status_is)
     ]
   ]

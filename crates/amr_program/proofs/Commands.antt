@@ -1,11 +1,16 @@
 -- The commands of a run, one after the other.
-use Rattle.std.proofs.Common.{◌≡◌, ◌≢◌, ℕ, zero, suc, ◌+◌, ◌<◌, ◌++◌, ◌⊎◌, List, [], ◌∷◌, Option, Some, None, Result, Ok, Err, IfSome, length, get_or, take, drop, inl, inr, refl, sym, ap, subst, ◌∙◌, arith, append_assoc, append-nil}
+use Rattle.std.specs.List.{list_all}
+use Rattle.std.proofs.lemmas.List.Elements.{All-cons, All-nil}
+use Rattle.std.proofs.Common.{◌≡◌, ◌≢◌, ℕ, ◌≤◌, ◌==◌, eqb-true, is_none, Bool, true, false, ◌&&◌, if◌then◌else◌, All, zero, suc, ◌+◌, ◌<◌, ◌++◌, ◌⊎◌, List, [], ◌∷◌, Option, Some, None, Result, Ok, Err, IfSome, length, get_or, take, drop, inl, inr, refl, sym, ap, subst, ◌∙◌, arith, append_assoc, append-nil}
+use Rattle.mesh_model.specs.declared.script.Declared.{Declared}
 use Rattle.mesh_model.specs.declared.script.Line.{Line}
 use Rattle.amr_engine.specs.declared.engine.Cause.{Cause}
 use Rattle.amr_engine.specs.declared.engine.Cause.TheVariants as causes
 use Rattle.amr_engine.specs.Stopping.{IsCause}
 use Rattle.amr_engine.proofs.Printed.{part_within}
-use Rattle.mesh_model.specs.Commands.{PlainScript}
+use Rattle.amr_engine.specs.Contents.{IsRow}
+use Rattle.mesh_model.specs.Built.{IsBuiltLine, is_built, is_built_mesh, is_built_command}
+use Rattle.mesh_model.specs.Commands.{InLimits, PlainScript}
 use Rattle.mesh_model.specs.Grammar.{Fault}
 use Rattle.mesh_model.specs.Plain.{Mesh}
 use Rattle.mesh_model.proofs.RunTotals.{runs_keep_totals}
@@ -13,8 +18,10 @@ use Rattle.outside_io.specs.Moved.{Rose, Takes, TakesPrefix}
 use Rattle.outside_io.proofs.Moving.{takes_more}
 use Rattle.amr_program.specs.declared.status.Status.{Status}
 use Rattle.amr_program.specs.declared.status.Status.TheVariants as status
-use Rattle.amr_program.specs.Answer.{TotalsAreKept, first_texts, script_in}
-use Rattle.amr_program.specs.Lines.{memory_line, script_line}
+use Rattle.amr_program.specs.declared.refusal.Refusal.{Refusal}
+use Rattle.amr_program.specs.declared.refusal.Refusal.TheVariants as refusals
+use Rattle.amr_program.specs.Answer.{TotalsAreKept, admitted, first_texts, read_in, script_in}
+use Rattle.amr_program.specs.Lines.{memory_line, refusal_line}
 use Rattle.amr_program.specs.Outcome.{Came, Ended, RunStops, Written}
 use Rattle.mesh_model.specs.Run.{first_mesh, mesh_after, mesh_of, text_of, texts}
 
@@ -63,7 +70,7 @@ run_stops causes.OutOfMemory m now lines i d a b c f g h l at before calm told =
 -- ---- what came of a script
 
 -- memory was refused after the texts of the first commands
-pub starved_after : (read : Result PlainScript Fault) (k : ℕ) (result : Status) (a b c : Option (List ℕ)) (f g h : ℕ) → Takes a (first_texts read k) b → g ≡ f → Ended status.OutOfMemory memory_line result (record { before = b; after = c; faults = g; new_faults = h }) →
+pub starved_after : (read : Result PlainScript Refusal) (k : ℕ) (result : Status) (a b c : Option (List ℕ)) (f g h : ℕ) → Takes a (first_texts read k) b → g ≡ f → Ended status.OutOfMemory memory_line result (record { before = b; after = c; faults = g; new_faults = h }) →
     Came read result (record { before = a; after = c; faults = f; new_faults = h })
 starved_after read k result a b c f g h before calm (inl e) = inr (inl (record { status_is = e.0; commands = k; wrote = record { takes = takes_more a b c (first_texts read k) memory_line before e.1.takes; calm = e.1.calm ∙ calm } }))
 starved_after read k result a b c f g h before calm (inr e) = inr (inr (record {
@@ -77,24 +84,75 @@ nothing_taken : (a : Option (List ℕ)) → Takes a [] a
 nothing_taken None = tt
 nothing_taken (Some xs) = ap Some (sym (append-nil xs))
 
-no_texts : (read : Result PlainScript Fault) → first_texts read 0 ≡ []
+no_texts : (read : Result PlainScript Refusal) → first_texts read 0 ≡ []
 no_texts (Ok script) = refl
 no_texts (Err fault) = refl
 
 -- memory was refused before the first command
-pub starved_first : (read : Result PlainScript Fault) (result : Status) (w : Written) → Ended status.OutOfMemory memory_line result w → Came read result w
+pub starved_first : (read : Result PlainScript Refusal) (result : Status) (w : Written) → Ended status.OutOfMemory memory_line result w → Came read result w
 starved_first read result w e = starved_after read 0 result w.before w.before w.after w.faults w.faults w.new_faults (subst (λ t. Takes w.before t w.before) (sym (no_texts read)) (nothing_taken w.before)) refl e
 
--- the script is refused
-pub refused_came : (read : Result PlainScript Fault) (fault : Fault) (result : Status) (w : Written) → read ≡ Err fault → Ended status.Script script_line result w → Came read result w
-refused_came read fault result w is (inl e) = subst (λ r. Came r result w) (sym is) (inl (record { status_is = e.0; wrote = e.1 }))
-refused_came read fault result w is (inr e) = subst (λ r. Came r result w) (sym is) (inr (inr (record { status_is = e.0; text = script_line; text_is = inl refl; wrote = e.1 })))
+-- the script is not run
+pub refused_came : (refusal : Refusal) (result : Status) (w : Written) → Ended status.Script (refusal_line refusal) result w → Came (Err refusal) result w
+refused_came refusal result w (inl e) = inl (record { status_is = e.0; wrote = e.1 })
+refused_came refusal result w (inr e) = inr (inr (record { status_is = e.0; text = refusal_line refusal; text_is = inl refl; wrote = e.1 }))
 
--- totals are kept along the run of a script
-pub totals_kept : (read : Result PlainScript Fault) → TotalsAreKept read
-totals_kept (Ok s) = runs_keep_totals (first_mesh s) s.lines
+-- the line says why
+pub refused_said : (refusal : Refusal) (line : List ℕ) (result : Status) (w : Written) → line ≡ refusal_line refusal → Ended status.Script line result w → Came (Err refusal) result w
+refused_said refusal line result w is e = refused_came refusal result w (subst (λ t. Ended status.Script t result w) is e)
+
+-- ---- what a built script is
+
+both : (a b : Bool) → (a && b) ≡ true → (a ≡ true) × (b ≡ true)
+both true b h = (refl, h)
+both false b h = absurd (cc)
+
+pub built_mesh : (s : PlainScript) → is_built s 1 1 ≡ true → is_built_mesh s.declared ≡ true
+unfolding is_built
+built_mesh s h = (both _ _ (both _ _ (both _ _ h).0).0).0
+
+pub built_lines : (s : PlainScript) → is_built s 1 1 ≡ true → All IsBuiltLine s.lines
+unfolding is_built
+built_lines s h = each s.lines (both _ _ h).1
+  where
+    each : (lines : List Line) → list_all (λ line. is_built_command line.command) lines ≡ true → All IsBuiltLine lines
+    each [] all = All-nil IsBuiltLine
+    each (line ∷ lines) all = All-cons IsBuiltLine line lines (both _ _ all).0 (each lines (both _ _ all).1)
+
+none_there : {A : Type 0} (o : Option A) → is_none o ≡ true → o ≡ None
+none_there None h = refl
+none_there (Some x) h = absurd (cc)
+
+pub built_names : (d : Declared) → is_built_mesh d ≡ true → (d.names.face ≡ None) × (d.names.edge ≡ None)
+unfolding is_built_mesh
+built_names d h = (none_there d.names.face (both _ _ (both _ _ h).0).1, none_there d.names.edge (both _ _ h).1)
+
+pub built_row : (d : Declared) → InLimits d → is_built_mesh d ≡ true → IsRow d.shape
+unfolding is_built_mesh
+built_row d limits h =
+    let one : ((d.shape.ry == 1) ≡ true) × ((d.shape.rz == 1) ≡ true) = both _ _ (both _ _ (both _ _ h).0).0 in
+    let n : (d.shape.n ≡ 4) ⊎ (d.shape.n ≡ 8) = limits.shape.n in
+    let x : (1 ≤ d.shape.rx) × (d.shape.rx ≤ 8) = limits.shape.rx in
+    record {
+      some_cells = elim n [ inl e ↦ omega arith | inr e ↦ omega arith ];
+      few_cells = elim n [ inl e ↦ omega arith | inr e ↦ omega arith ];
+      some_roots = x.0;
+      few_roots = x.1;
+      y = eqb-true _ _ one.0;
+      z = eqb-true _ _ one.1;
+    }
+
+-- ---- totals
+
+-- totals are kept along the run of a script that is run
+totals_kept_by : (built : Bool) (s : PlainScript) → is_built s 1 1 ≡ built → TotalsAreKept (if built then Ok s else Err refusals.NotBuilt)
+totals_kept_by true s h = runs_keep_totals (first_mesh s) s.lines (built_lines s h)
+totals_kept_by false s h = tt
+
+totals_kept : (read : Result PlainScript Fault) → TotalsAreKept (admitted read)
+totals_kept (Ok s) = totals_kept_by (is_built s 1 1) s refl
 totals_kept (Err fault) = tt
 
 pub totals_kept_of : (left : Option (List ℕ)) → IfSome left (λ bytes. TotalsAreKept (script_in bytes))
 totals_kept_of None = tt
-totals_kept_of (Some bytes) = totals_kept (script_in bytes)
+totals_kept_of (Some bytes) = totals_kept (read_in bytes)

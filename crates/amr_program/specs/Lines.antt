@@ -1,11 +1,16 @@
 -- The last lines that a run writes.
-use Rattle.std.specs.Prelude.{ℕ, List, codes}
+use Rattle.std.specs.Prelude.{ℕ, List, ◌++◌, codes, decimal}
+use Rattle.mesh_model.specs.Texts.{reason_text}
+use Rattle.amr_program.specs.declared.refusal.Refusal.{Refusal}
+use Rattle.amr_program.specs.declared.refusal.Refusal.TheVariants.{Fault, NotBuilt}
 
 abbrev pub words_line : List ℕ
 words_line = codes "error: words; usage: amr [--ranks R] [--order K] [--workers W] [--restart | --sample K]\n"
 
-abbrev pub script_line : List ℕ
-script_line = codes "error: script refused\n"
+-- why a script is not run
+abbrev pub refusal_line : Refusal → List ℕ
+refusal_line (Fault line reason) = codes "error: script line " ++ decimal line ++ codes ": " ++ reason_text reason ++ codes "\n"
+refusal_line NotBuilt = codes "error: not built\n"
 
 abbrev pub read_line : List ℕ
 read_line = codes "error: read failed\n"

@@ -1,17 +1,18 @@
 -- The ways in which the parts of a run end.
-use Rattle.std.specs.Prelude.{◌≡◌, ◌≢◌, ℕ, List, [], ◌++◌, Option, Some, Result, ◌⊎◌, IfSome, take, drop}
+use Rattle.std.specs.Prelude.{◌≡◌, ◌≢◌, ℕ, List, [], ◌++◌, Option, Some, None, Result, ◌⊎◌, IfSome, take, drop}
 use Rattle.amr_engine.specs.declared.engine.Cause.{Cause}
 use Rattle.amr_engine.specs.declared.engine.Cause.TheVariants as causes
 use Rattle.mesh_model.specs.declared.script.Line.{Line}
 use Rattle.mesh_model.specs.Commands.{PlainScript}
-use Rattle.mesh_model.specs.Grammar.{Fault, script_of}
+use Rattle.mesh_model.specs.Grammar.{script_of}
 use Rattle.mesh_model.specs.Plain.{Mesh}
 use Rattle.mesh_model.specs.Run.{texts}
 use Rattle.outside_io.specs.Moved.{Rose, Takes, TakesPrefix}
 use Rattle.amr_program.specs.declared.status.Status.{Status}
 use Rattle.amr_program.specs.declared.status.Status.TheVariants as status
 use Rattle.amr_program.specs.declared.program.TheConstants.{LIMIT}
-use Rattle.amr_program.specs.Answer.{Answer, answer_of, first_texts}
+use Rattle.amr_program.specs.declared.refusal.Refusal.{Refusal}
+use Rattle.amr_program.specs.Answer.{Answer, admitted, answer_of, first_texts}
 use Rattle.amr_program.specs.Lines.{memory_line, read_line, words_line}
 
 -- the sink before and after, by the bytes that it took and its faults
@@ -41,25 +42,25 @@ RunStops causes.WriteFault m lines w = WrotePart (texts m lines) w
 RunStops causes.OutOfMemory m lines w = (k : ℕ) × Wrote (texts m (take k lines)) w
 
 -- the answer came, with all of its text
-pub record Answered (read : Result PlainScript Fault) (result : Status) (w : Written) : Type 0 where
+pub record Answered (read : Result PlainScript Refusal) (result : Status) (w : Written) : Type 0 where
   pub status_is : result ≡ (answer_of read).status
   pub wrote : Wrote (answer_of read).text w
 
 -- memory was refused at a command, or before the first
-pub record Starved (read : Result PlainScript Fault) (result : Status) (w : Written) : Type 0 where
+pub record Starved (read : Result PlainScript Refusal) (result : Status) (w : Written) : Type 0 where
   pub status_is : result ≡ status.OutOfMemory
   pub commands : ℕ
   pub wrote : Wrote (first_texts read commands ++ memory_line) w
 
 -- the sink failed within the answer's text, or within the line that says that memory is wanting
-pub record Failed (read : Result PlainScript Fault) (result : Status) (w : Written) : Type 0 where
+pub record Failed (read : Result PlainScript Refusal) (result : Status) (w : Written) : Type 0 where
   pub status_is : result ≡ status.WriteFault
   pub text : List ℕ
   pub text_is : (text ≡ (answer_of read).text) ⊎ ((k : ℕ) × (text ≡ first_texts read k ++ memory_line))
   pub wrote : WrotePart text w
 
--- what comes of what was read of a script
-abbrev pub Came : Result PlainScript Fault → Status → Written → Type 0
+-- what comes of a script that is run, or is not
+abbrev pub Came : Result PlainScript Refusal → Status → Written → Type 0
 Came read result w = Answered read result w ⊎ (Starved read result w ⊎ Failed read result w)
 
 -- the source before and after, by the bytes that it has left and its faults
@@ -94,7 +95,7 @@ pub record ByScript (words : List (List ℕ)) (result : Status) (s : Source) (w 
   pub calm : s.new_faults ≡ s.faults
   pub bytes : List ℕ
   pub left : IfSome s.before (λ all. (bytes ≡ take LIMIT all) × (s.after ≡ Some (drop LIMIT all)))
-  pub came : Came (script_of bytes) result w
+  pub came : Came (admitted (script_of None bytes)) result w
 
 abbrev pub Outcome : List (List ℕ) → Status → Source → Written → Type 0
 Outcome words result s w = ByWords words result s w ⊎ (ByRead words result s w ⊎ (ByMemory words result s w ⊎ ByScript words result s w))

@@ -2,6 +2,7 @@
 #![tactic(auto)]
 
 mod program;
+mod refusal;
 mod run;
 mod status;
 #[cfg(test)]

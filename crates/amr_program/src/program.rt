@@ -1,4 +1,4 @@
-ghost use Rattle.amr_program.specs.Answer.{IsAccepted, IsAnswer, IsRefused, TookBeforeMemory, TookPart, TotalsAreKept, plain_answer, script_in};
+ghost use Rattle.amr_program.specs.Answer.{IsAccepted, IsAnswer, IsRefused, TookBeforeMemory, TookPart, TotalsAreKept, plain_answer, read_in, script_in};
 ghost use Rattle.amr_program.specs.Lines.{read_line};
 ghost use Rattle.amr_program.specs.Outcome.{Outcome};
 ghost use Rattle.outside_io.specs.Moved.{Rose, Takes};
@@ -29,13 +29,13 @@ pub fn amr<S: Source, K: Sink, D: Disk>(
     // Each other status has its cause, and comes where the cause is.
     ensures words_refused { result ≡ Status.Words → words.now ≢ [] }
     ensures words_alone { words.now ≢ [] → (result ≡ Status.Words) ⊎ (result ≡ Status.WriteFault) }
-    ensures script_refused { result ≡ Status.Script → (words.now ≡ []) × IfSome (S.left source.old) (λ bytes. IsRefused (script_in bytes)) }
+    ensures script_refused { result ≡ Status.Script → (words.now ≡ []) × IfSome (S.left source.old) (λ bytes. IsRefused (read_in bytes)) }
     ensures read_fault { result ≡ Status.ReadFault → Rose (S.faults source.old) (S.faults source.new) }
     ensures read_fault_told { S.faults source.old < S.faults source.new → ¬ Rose (K.faults sink.old) (K.faults sink.new) → (result ≡ Status.ReadFault) × Takes (K.taken sink.old) read_line (K.taken sink.new) }
     ensures write_fault { result ≡ Status.WriteFault → Rose (K.faults sink.old) (K.faults sink.new) }
     ensures write_fault_told { K.faults sink.old < K.faults sink.new → result ≡ Status.WriteFault }
     ensures complete { words.now ≡ [] → ¬ Rose (S.faults source.old) (S.faults source.new) → ¬ Rose (K.faults sink.old) (K.faults sink.new) →
-        IfSome (S.left source.old) (λ bytes. IsAccepted (script_in bytes) → (result ≡ Status.Done) ⊎ (result ≡ Status.OutOfMemory)) }
+        IfSome (S.left source.old) (λ bytes. IsAccepted (read_in bytes) → (result ≡ Status.Done) ⊎ (result ≡ Status.OutOfMemory)) }
 
     // What was printed where the sink failed, or memory was wanting.
     ensures part { result ≡ Status.WriteFault → IfSome (S.left source.old) (λ bytes. TookPart (map (λ w. string_bytes w) words.now) bytes (K.taken sink.old) (K.taken sink.new)) }

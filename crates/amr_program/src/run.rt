@@ -1,13 +1,20 @@
 ghost use Rattle.amr_engine.specs.Plain.{declared_of, plain};
-ghost use Rattle.amr_program.specs.Lines.{memory_line, read_line, script_line, words_line};
+ghost use Rattle.amr_program.specs.Answer.{admitted};
+ghost use Rattle.amr_program.specs.Lines.{memory_line, read_line, refusal_line, words_line};
 ghost use Rattle.amr_program.specs.Outcome.{Came, Ended, RunStops, Wrote};
+ghost use Rattle.mesh_model.specs.Built.{IsBuiltLine, is_built};
 ghost use Rattle.mesh_model.specs.Commands.{InLimits, IsLineOf, plain_script};
 ghost use Rattle.mesh_model.specs.Grammar.{script_of};
 ghost use Rattle.mesh_model.specs.Run.{texts};
-ghost use Rattle.std.specs.Prelude.{◌≡◌, All, IfErr, OnOk, Ok};
+ghost use Rattle.std.specs.Prelude.{◌≡◌, true, All, IfErr, IfOk, OnOk, None, Ok, Err};
 
+use crate::refusal::Refusal;
 use crate::status::Status;
+use amr_engine::built::built;
 use amr_engine::engine::{Cause, Engine, Stop};
+use amr_engine::line_text::LineText;
+use amr_num::OutOfMemory;
+use mesh_model::script::Reason;
 use outside_io::disk::Disk;
 use outside_io::sink::{Sink, write_all};
 use script_lang::reader::{ScriptStop, read_script};
@@ -18,8 +25,8 @@ use std::alloc::Global;
 pub const WORDS_LINE: &str =
     "error: words; usage: amr [--ranks R] [--order K] [--workers W] [--restart | --sample K]\n";
 
-/// What is written where the script is refused.
-pub const SCRIPT_LINE: &str = "error: script refused\n";
+/// What is written where the script asks for what is not built.
+pub const NOT_BUILT_LINE: &str = "error: not built\n";
 
 /// What is written where the source failed.
 pub const READ_LINE: &str = "error: read failed\n";
@@ -28,13 +35,20 @@ pub const READ_LINE: &str = "error: read failed\n";
 pub const MEMORY_LINE: &str = "error: out of memory\n";
 
 /// Writes the last line of a run, and answers the status, or that the sink failed.
-pub fn end<K: Sink>(sink: &mut K, line: &str, status: Status) -> Status
+fn end_with<K: Sink>(sink: &mut K, line: &[u8], status: Status) -> Status
     ensures { Ended status line.now result (record { before = K.taken sink.old; after = K.taken sink.new; faults = K.faults sink.old; new_faults = K.faults sink.new }) }
 {
-    match write_all(sink, line.as_bytes()) {
+    match write_all(sink, line) {
         Ok(()) => status,
         Err(_) => Status::WriteFault,
     }
+}
+
+/// Does what `end_with` does, with a line of text.
+pub fn end<K: Sink>(sink: &mut K, line: &str, status: Status) -> Status
+    ensures { Ended status line.now result (record { before = K.taken sink.old; after = K.taken sink.new; faults = K.faults sink.old; new_faults = K.faults sink.new }) }
+{
+    end_with(sink, line.as_bytes(), status)
 }
 
 /// Does the commands of the lines in order, up to the first that stops.
@@ -44,7 +58,8 @@ fn run<K: Sink, D: Disk>(
     sink: &mut K,
     disk: &mut D,
 ) -> Result<(), Stop>
-    requires { All (IsLineOf (declared_of engine.old)) lines.now }
+    requires fit { All (IsLineOf (declared_of engine.old)) lines.now }
+    requires built { All IsBuiltLine lines.now }
     ensures text { OnOk result (Wrote (texts (plain engine.old) lines.now) (record { before = K.taken sink.old; after = K.taken sink.new; faults = K.faults sink.old; new_faults = K.faults sink.new })) }
     ensures stops { IfErr result (λ stop. RunStops stop.cause (plain engine.old) lines.now (record { before = K.taken sink.old; after = K.taken sink.new; faults = K.faults sink.old; new_faults = K.faults sink.new })) }
     ensures disk { disk.new ≡ disk.old }
@@ -59,6 +74,7 @@ fn run<K: Sink, D: Disk>(
 fn run_script<K: Sink, D: Disk>(alloc: Global, script: Script, sink: &mut K, disk: &mut D) -> Status
     requires limits { InLimits script.declared }
     requires lines { All (IsLineOf script.declared) script.lines.items }
+    requires built { is_built (plain_script script) 1 1 ≡ true }
     ensures came { Came (Ok (plain_script script)) result (record { before = K.taken sink.old; after = K.taken sink.new; faults = K.faults sink.old; new_faults = K.faults sink.new }) }
     ensures disk { disk.new ≡ disk.old }
 {
@@ -76,6 +92,32 @@ fn run_script<K: Sink, D: Disk>(alloc: Global, script: Script, sink: &mut K, dis
     }
 }
 
+/// The line that names a fault of the script.
+fn fault_line(alloc: Global, line: u32, reason: Reason) -> Result<LineText, OutOfMemory>
+    ensures { IfOk result (λ text. text ≡ refusal_line (Refusal.Fault line reason)) }
+{
+    let mut text = LineText::new(alloc)?;
+    text.begin("error: script line");
+    text.push_number(line);
+    text.push_text(":");
+    text.push_word(reason.text());
+    text.end();
+    Ok(text)
+}
+
+/// Says why the script is not run.
+fn refuse<K: Sink>(alloc: Global, refusal: Refusal, sink: &mut K) -> Status
+    ensures { Came (Err refusal) result (record { before = K.taken sink.old; after = K.taken sink.new; faults = K.faults sink.old; new_faults = K.faults sink.new }) }
+{
+    match refusal {
+        Refusal::Fault { line, reason } => match fault_line(alloc, line, reason) {
+            Ok(text) => end_with(sink, text.as_bytes(), Status::Script),
+            Err(_) => end(sink, MEMORY_LINE, Status::OutOfMemory),
+        },
+        Refusal::NotBuilt => end(sink, NOT_BUILT_LINE, Status::Script),
+    }
+}
+
 /// Reads and runs the script that the bytes say.
 pub fn answer_script<K: Sink, D: Disk>(
     alloc: Global,
@@ -83,12 +125,15 @@ pub fn answer_script<K: Sink, D: Disk>(
     sink: &mut K,
     disk: &mut D,
 ) -> Status
-    ensures came { Came (script_of bytes.now) result (record { before = K.taken sink.old; after = K.taken sink.new; faults = K.faults sink.old; new_faults = K.faults sink.new }) }
+    ensures came { Came (admitted (script_of None bytes.now)) result (record { before = K.taken sink.old; after = K.taken sink.new; faults = K.faults sink.old; new_faults = K.faults sink.new }) }
     ensures disk { disk.new ≡ disk.old }
 {
-    match read_script(alloc, bytes) {
-        Ok(script) => run_script(alloc, script, sink, disk),
-        Err(ScriptStop::Refused) => end(sink, SCRIPT_LINE, Status::Script),
+    match read_script(alloc, None, bytes) {
+        Ok(script) if built(&script, 1, 1) => run_script(alloc, script, sink, disk),
+        Ok(_) => refuse(alloc, Refusal::NotBuilt, sink),
+        Err(ScriptStop::Fault { line, reason }) => {
+            refuse(alloc, Refusal::Fault { line, reason }, sink)
+        }
         Err(ScriptStop::OutOfMemory) => end(sink, MEMORY_LINE, Status::OutOfMemory),
     }
 }

@@ -115,10 +115,28 @@ fn refuses_words_and_scripts_that_are_too_long(rt: HostRuntime) -> Result<(), Fa
     script.push(b'\n')?;
     let (status, sink) = run(rt.alloc(), &[], &script, QUIET)?;
     assert_eq!(rt; status, Status::Script);
-    assert_eq!(rt; sink.taken(), b"error: script refused\n".as_slice());
+    assert_eq!(rt; sink.taken(), b"error: script line 0: too long\n".as_slice());
     let words = vec![in rt.alloc(); String::from_str(rt.alloc(), "--ranks")?]?;
     let (status, sink) = run(rt.alloc(), &words, &script, QUIET)?;
     assert_eq!(rt; status, Status::Words);
     assert!(rt; sink.taken().starts_with(b"error: words; usage: amr "));
+    Ok(())
+}
+
+/// Scripts that are not run, and what is said of them.
+const REFUSED: [(&[u8], &[u8]); 4] = [
+    (b"", b"error: script line 1: end missing\n"),
+    (b"domain 1 1 1\nfill all 2\nend\n", b"error: script line 2: wrong number of words\n"),
+    (b"domain 1 2 1\nend\n", b"error: not built\n"),
+    (b"domain 1 1 1\nregrid\nend\n", b"error: not built\n"),
+];
+
+#[test]
+fn says_why_a_script_is_not_run(rt: HostRuntime) -> Result<(), Fail> {
+    for (script, line) in REFUSED {
+        let (status, sink) = run(rt.alloc(), &[], script, QUIET)?;
+        assert_eq!(rt; status, Status::Script);
+        assert_eq!(rt; sink.taken(), line);
+    }
     Ok(())
 }

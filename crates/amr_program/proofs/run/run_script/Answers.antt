@@ -1,11 +1,12 @@
-use Rattle.std.proofs.Common.{Ok, subst, sym, ap, ◌∙◌, take}
+use Rattle.std.proofs.Common.{All, Ok, subst, sym, ap, ◌∙◌, take}
 use Rattle.amr_engine.specs.Plain.{plain}
 use Rattle.mesh_model.specs.Commands.{plain_script}
 use Rattle.mesh_model.specs.Run.{texts}
 use Rattle.mesh_model.specs.Start.{start_mesh}
 use Rattle.outside_io.specs.Moved.{Takes}
 use Rattle.amr_program.specs.Outcome.{RunStops}
-use Rattle.amr_program.proofs.Commands.{starved_after, starved_first}
+use Rattle.mesh_model.specs.Built.{IsBuiltLine}
+use Rattle.amr_program.proofs.Commands.{built_lines, built_mesh, built_names, built_row, starved_after, starved_first}
 use Rattle.amr_program.proofs.run.run_script.Goals as goal
 
 pub returns-in-Err-clause-came : goal.returns-in-Err-clause-came
@@ -18,3 +19,12 @@ returns-clause-came g c =
     let taken = subst (λ m. Takes (g.K.Sink.taken c.args.sink.now) (texts m (take stops.0 c.deref.result.now)) (g.K.Sink.taken c.run.new.sink)) c.in-Ok.ensures.mesh stops.1.takes in
     let said = subst (λ lines. Takes (g.K.Sink.taken c.args.sink.now) (texts first (take stops.0 lines)) (g.K.Sink.taken c.run.new.sink)) c.deref.ensures.value taken in
     starved_after (Ok (plain_script c.args.script)) stops.0 _ _ _ _ _ _ _ said stops.1.calm c.end-in-OutOfMemory.ensures
+
+pub new-requires-clause-shape : goal.new-requires-clause-shape
+new-requires-clause-shape g c = built_row _ c.requires.limits (built_mesh (plain_script c.args.script) c.requires.built)
+
+pub new-requires-clause-groups : goal.new-requires-clause-groups
+new-requires-clause-groups g c = built_names _ (built_mesh (plain_script c.args.script) c.requires.built)
+
+pub run-requires-clause-built : goal.run-requires-clause-built
+run-requires-clause-built g c = subst (All IsBuiltLine) (sym c.deref.ensures.value) (built_lines (plain_script c.args.script) c.requires.built)

@@ -1,0 +1,49 @@
+ghost use Rattle.mesh_model.specs.Built as plain;
+ghost use Rattle.mesh_model.specs.Commands.{plain_script};
+ghost use Rattle.std.specs.List.{list_all};
+ghost use Rattle.std.specs.Prelude.{◌≡◌};
+
+use mesh_model::script::{Command, Declared, Line, Script};
+
+/// Whether the command is built.
+fn is_built_command(command: Command) -> bool
+    ensures { result ≡ plain.is_built_command command }
+{
+    match command {
+        Command::FillAll { .. } => true,
+        Command::FillBox { .. } => true,
+        Command::PrintVar { .. } => true,
+        Command::Total { .. } => true,
+        _ => false,
+    }
+}
+
+/// Whether meshes as declared are built.
+#[tactic(auto, unfolding(mesh_model::specs::Built::is_built_mesh))]
+fn is_built_mesh(declared: &Declared) -> bool
+    ensures { result ≡ plain.is_built_mesh declared.now }
+{
+    declared.shape.ry == 1
+        && declared.shape.rz == 1
+        && declared.names.face().is_none()
+        && declared.names.edge().is_none()
+}
+
+/// Whether all commands of the lines are built.
+fn are_built(lines: &[Line]) -> bool
+    ensures { result ≡ list_all (λ line. plain.is_built_command line.command) lines.now }
+{
+    lines.iter().all(|line| is_built_command(line.command))
+}
+
+/// Whether all that the script asks for is built, for so many ranks and workers. What is not built is
+/// not run.
+#[tactic(auto, unfolding(mesh_model::specs::Built::is_built))]
+pub fn built(script: &Script, ranks: u32, workers: u32) -> bool
+    ensures { result ≡ plain.is_built (plain_script script.now) ranks workers }
+{
+    is_built_mesh(&script.declared)
+        && ranks <= 1
+        && workers <= 1
+        && are_built(&script.lines)
+}
