@@ -67,7 +67,12 @@ impl Engine {
     }
 
     /// Does the command of a line: changes the mesh, or prints.
-    pub fn command<K: Sink, D: Disk>(&mut self, line: &Line, sink: &mut K, disk: &mut D) -> Result<(), Stop>
+    pub fn command<K: Sink, D: Disk>(
+        &mut self,
+        line: &Line,
+        sink: &mut K,
+        disk: &mut D,
+    ) -> Result<(), Stop>
         requires { IsLineOf (declared_of self.old) line.now }
         ensures mesh { OnOk result (plain self.new ≡ mesh_after (plain self.old) line.now.command) }
         ensures text { OnOk result (Takes (K.taken sink.old) (text_of (plain self.old) line.now.command) (K.taken sink.new)) }
@@ -158,6 +163,12 @@ impl Engine {
         ensures declared { declared_of self.new ≡ declared_of self.old }
     {
         let total = total(&self.declared.shape, &self.contents[var as usize]);
-        print_total(sink, &mut self.line, self.declared.names.cell(var), total, 0)
+        print_total(
+            sink,
+            &mut self.line,
+            self.declared.names.cell(var),
+            total,
+            0,
+        )
     }
 }

@@ -99,7 +99,7 @@ fn each_write_may_fail(rt: HostRuntime) -> Result<(), Fail> {
         let (status, sink) = run(rt.alloc(), &[], SCRIPT, outside)?;
         assert_eq!(rt; status, Status::WriteFault, "write {failing_write}");
         assert!(rt; PRINTED.starts_with(sink.taken()));
-        assert_eq!(rt; lines_in(sink.taken()) as u64 + 1, failing_write);
+        assert_eq!(rt; lines_in(sink.taken()) as u64, failing_write - 1);
     }
     Ok(())
 }
