@@ -70,9 +70,9 @@ told_by_key b h =
     let ly = low_end b.level b.y in
     let lz = low_end b.level b.z in
     same_block _ b level
-      (ap₂ (λ u l. respaced 3 1 13 u / 2 ^ (10 - l)) place level ∙ ap (λ u. u / 2 ^ (10 - b.level)) (gather_x 13 lx ly lz fx) ∙ low_back b.level b.x)
-      (ap₂ (λ u l. respaced 3 1 13 (u / 2) / 2 ^ (10 - l)) place level ∙ ap (λ u. u / 2 ^ (10 - b.level)) (gather_y 13 lx ly lz fx fy) ∙ low_back b.level b.y)
-      (ap₂ (λ u l. respaced 3 1 13 (u / 4) / 2 ^ (10 - l)) place level ∙ ap (λ u. u / 2 ^ (10 - b.level)) (gather_z 13 lx ly lz fx fy fz) ∙ low_back b.level b.z)
+    (ap₂ (λ u l. respaced 3 1 13 u / 2 ^ (10 - l)) place level ∙ ap (λ u. u / 2 ^ (10 - b.level)) (gather_x 13 lx ly lz fx) ∙ low_back b.level b.x)
+    (ap₂ (λ u l. respaced 3 1 13 (u / 2) / 2 ^ (10 - l)) place level ∙ ap (λ u. u / 2 ^ (10 - b.level)) (gather_y 13 lx ly lz fx fy) ∙ low_back b.level b.y)
+    (ap₂ (λ u l. respaced 3 1 13 (u / 4) / 2 ^ (10 - l)) place level ∙ ap (λ u. u / 2 ^ (10 - b.level)) (gather_z 13 lx ly lz fx fy fz) ∙ low_back b.level b.z)
 
 pub one_block : (b c : BlockAt) → HasKey b → HasKey c → key b ≡ key c → b ≡ c
 one_block b c hb hc e = sym (told_by_key b hb) ∙ ap told e ∙ told_by_key c hc

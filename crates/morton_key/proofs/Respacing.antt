@@ -88,7 +88,7 @@ module _ (f : ℕ → ℕ) (p q : ℕ) where
         let whole = shr_split n p in
         let own : lo + 2 ^ p * hi ≡ n = omega arith in
         let split : n * 2 ^ a ≡ bit_or (hi * 2 ^ (a + p)) (lo * 2 ^ a) =
-            ap (λ u. u * 2 ^ a) (sym own) ∙ sym (joined hi lo (2 ^ p) (2 ^ a)) ∙ ap (λ u. hi * u + lo * 2 ^ a) (sym (pow-add 2 a p)) ∙ sym (or_shifted hi (a + p) (lo * 2 ^ a) below) in
+        ap (λ u. u * 2 ^ a) (sym own) ∙ sym (joined hi lo (2 ^ p) (2 ^ a)) ∙ ap (λ u. hi * u + lo * 2 ^ a) (sym (pow-add 2 a p)) ∙ sym (or_shifted hi (a + p) (lo * 2 ^ a) below) in
         let one = eqb-true _ _ (each_says (2 ^ p) (λ c. f (c * 2 ^ a) == c % 2 * 2 ^ b) (and_left _ _ t) lo (mod_below n (2 ^ p) (pow_pos p))) in
         let two = respaces j (a + p) (b + q) hi (and_right _ _ t) d in
         ap f split ∙ joins (hi * 2 ^ (a + p)) (lo * 2 ^ a) ∙ ap₂ bit_or two one

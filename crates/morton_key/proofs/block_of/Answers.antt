@@ -1,4 +1,5 @@
 use Rattle.std.proofs.Common.{◌≡◌, ◌∙◌, ◌*◌, ◌+◌, ◌-◌, ◌/◌, ◌%◌, ◌^◌, ap, sym, arith}
+use Rattle.std.proofs.lemmas.Bool.{eqb-false}
 use Rattle.amr_num.specs.declared.BlockAt.{BlockAt}
 use Rattle.amr_num.specs.MortonKey.{key}
 use Rattle.morton_key.specs.Bits.{respaced}
@@ -20,4 +21,4 @@ returns-else-eq c b h e =
     let y = c.coordinate-2.ensures.value ∙ ap (λ u. u / 2 ^ (10 - k % 16)) c.gathered-2.ensures.value ∙ ap (λ (t : BlockAt). t.y) same in
     let z = c.coordinate-3.ensures.value ∙ ap (λ u. u / 2 ^ (10 - k % 16)) c.gathered-3.ensures.value ∙ ap (λ (t : BlockAt). t.z) same in
     let again = c.key_of.ensures.value ∙ ap key (same_block _ b (ap (λ (t : BlockAt). t.level) same) x y z) ∙ e in
-    ?
+    eqb-false c.key_of.result.0 k (sym c.if-eq.ensures) again
