@@ -1,5 +1,5 @@
 -- Interleaved numbers by their bits set apart, and back from them.
-use Rattle.std.proofs.Common.{◌≡◌, ℕ, zero, suc, ◌+◌, ◌*◌, ◌/◌, ◌%◌, ◌^◌, ◌<◌, sym, ap, ◌∙◌, refl, arith}
+use Rattle.std.proofs.Common.{◌≡◌, ℕ, zero, suc, ◌+◌, ◌*◌, ◌/◌, ◌%◌, ◌^◌, ◌<◌, ap, ◌∙◌, refl, arith}
 use Rattle.amr_num.specs.MortonKey.{interleave}
 use Rattle.mesh_model.proofs.Morton.{step}
 use Rattle.morton_key.specs.Bits.{respaced}

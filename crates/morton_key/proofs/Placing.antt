@@ -1,5 +1,5 @@
 -- Where blocks stand on the Morton curve, and what their keys tell.
-use Rattle.std.proofs.Common.{◌≡◌, ◌≢◌, ℕ, suc, ◌+◌, ◌-◌, ◌*◌, ◌/◌, ◌%◌, ◌^◌, ◌<◌, ◌≤◌, refl, sym, ap, ap₂, ◌∙◌, subst, arith, inl, inr}
+use Rattle.std.proofs.Common.{◌≡◌, ◌≢◌, ℕ, suc, ◌+◌, ◌-◌, ◌*◌, ◌/◌, ◌%◌, ◌^◌, ◌<◌, ◌≤◌, sym, ap, ap₂, ◌∙◌, subst, arith, inl, inr}
 use Rattle.std.proofs.Math.Nat.{div-div-eq-div-mul, mul-div_cancel, mul-le-mul_right, mul_comm}
 use Rattle.std.proofs.Math.Pow.{pow-add}
 use Rattle.std.proofs.lemmas.Nat.{pow_pos, shl_below, shl-shr, shr_below, div-add-mod', mod_below}
@@ -8,7 +8,7 @@ use Rattle.amr_num.specs.declared.BlockAt.{BlockAt}
 use Rattle.amr_num.specs.MortonKey.{interleave, low_end, morton, key}
 use Rattle.mesh_model.specs.Blocks.{child_block}
 use Rattle.mesh_model.specs.Valid.{LiesIn}
-use Rattle.mesh_model.proofs.Morton.{shifted, digits, same_numbers}
+use Rattle.mesh_model.proofs.Morton.{shifted, digits}
 use Rattle.mesh_model.proofs.Sorting.{span, span_pos, morton_child}
 use Rattle.morton_key.specs.Bits.{respaced}
 use Rattle.morton_key.specs.Keyed.{HasKey}

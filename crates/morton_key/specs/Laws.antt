@@ -1,5 +1,5 @@
 -- What the laws of the keys say.
-use Rattle.std.specs.Prelude.{◌≡◌, ◌≢◌, ℕ, ◌<◌, ◌≤◌}
+use Rattle.std.specs.Prelude.{◌≡◌, ◌≢◌, ℕ, ◌<◌}
 use Rattle.amr_num.specs.declared.BlockAt.{BlockAt}
 use Rattle.amr_num.specs.MortonKey.{key}
 use Rattle.mesh_model.specs.Blocks.{child_block}

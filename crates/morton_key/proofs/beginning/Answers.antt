@@ -1,4 +1,4 @@
-use Rattle.std.proofs.Common.{◌*◌, ◌-◌, ◌%◌, ◌^◌, ◌<◌, ◌≡◌, ◌∙◌, ap, arith, subst, sym}
+use Rattle.std.proofs.Common.{◌*◌, ◌-◌, ◌%◌, ◌^◌, ◌<◌, ◌∙◌, ap, arith, subst, sym}
 use Rattle.amr_num.specs.MortonKey.{low_end}
 use Rattle.morton_key.proofs.Placing.{low_few}
 use Rattle.morton_key.proofs.beginning.Goals as goal

@@ -1,4 +1,4 @@
-use Rattle.std.proofs.Common.{◌≡◌, ◌∙◌, ◌*◌, ◌+◌, ap, arith}
+use Rattle.std.proofs.Common.{◌≡◌, ◌∙◌, ap, arith}
 use Rattle.amr_num.specs.MortonKey.{low_end, morton, key}
 use Rattle.morton_key.specs.Bits.{respaced}
 use Rattle.morton_key.proofs.Interleaving.{by_axes}
