@@ -46,7 +46,7 @@ unfolding key
 key_place b h = omega arith
 
 -- the block that the bits of a number tell
-unfoldable pub told : ℕ → BlockAt
+unfoldable told : ℕ → BlockAt
 told k = record {
   level = k % 16;
   x = respaced 3 1 13 (k / 16) / 2 ^ (10 - k % 16);
@@ -54,10 +54,10 @@ told k = record {
   z = respaced 3 1 13 (k / 16 / 4) / 2 ^ (10 - k % 16);
 }
 
-pub same_block : (b c : BlockAt) → b.level ≡ c.level → b.x ≡ c.x → b.y ≡ c.y → b.z ≡ c.z → b ≡ c
+same_block : (b c : BlockAt) → b.level ≡ c.level → b.x ≡ c.x → b.y ≡ c.y → b.z ≡ c.z → b ≡ c
 same_block b c l x y z = λ i. record { level = l i; x = x i; y = y i; z = z i }
 
-pub told_by_key : (b : BlockAt) → HasKey b → told (key b) ≡ b
+told_by_key : (b : BlockAt) → HasKey b → told (key b) ≡ b
 unfolding told morton
 told_by_key b h =
     let top = h.level in
@@ -73,6 +73,13 @@ told_by_key b h =
     (ap₂ (λ u l. respaced 3 1 13 u / 2 ^ (10 - l)) place level ∙ ap (λ u. u / 2 ^ (10 - b.level)) (gather_x 13 lx ly lz fx) ∙ low_back b.level b.x)
     (ap₂ (λ u l. respaced 3 1 13 (u / 2) / 2 ^ (10 - l)) place level ∙ ap (λ u. u / 2 ^ (10 - b.level)) (gather_y 13 lx ly lz fx fy) ∙ low_back b.level b.y)
     (ap₂ (λ u l. respaced 3 1 13 (u / 4) / 2 ^ (10 - l)) place level ∙ ap (λ u. u / 2 ^ (10 - b.level)) (gather_z 13 lx ly lz fx fy fz) ∙ low_back b.level b.z)
+
+-- a block whose parts are read from b's key is b
+pub read_back : (k x y z : ℕ) (b : BlockAt) → HasKey b → key b ≡ k → x ≡ respaced 3 1 13 (k / 16) / 2 ^ (10 - k % 16) → y ≡ respaced 3 1 13 (k / 16 / 2) / 2 ^ (10 - k % 16) → z ≡ respaced 3 1 13 (k / 16 / 4) / 2 ^ (10 - k % 16) → ◌≡◌ {A = BlockAt} (record { level = k % 16; x = x; y = y; z = z }) b
+unfolding told
+read_back k x y z b h e ex ey ez =
+    let same : told k ≡ b = ap told (sym e) ∙ told_by_key b h in
+    same_block _ b (ap (λ (t : BlockAt). t.level) same) (ex ∙ ap (λ (t : BlockAt). t.x) same) (ey ∙ ap (λ (t : BlockAt). t.y) same) (ez ∙ ap (λ (t : BlockAt). t.z) same)
 
 pub one_block : (b c : BlockAt) → HasKey b → HasKey c → key b ≡ key c → b ≡ c
 one_block b c hb hc e = sym (told_by_key b hb) ∙ ap told e ∙ told_by_key c hc

@@ -78,9 +78,10 @@ pub fn key_of(b: BlockAt) -> Key
     Key((place << 4) + u64::from(b.level))
 }
 
-/// The block that has the key, where one has it.
+/// The block with a key; `None` exactly where no block of a level of at most 10 and coordinates below 8 * 2^level has it.
 pub fn block_of(k: Key) -> Option<BlockAt>
-    ensures { MatchOption result ((b : BlockAt) → HasKey b → key b ≡ k.0 → ⊥) (λ b. HasKey b × (key b ≡ k.0)) }
+    ensures exact { MatchOption result ((b : BlockAt) → HasKey b → key b ≡ k.0 → ⊥) (λ b. HasKey b × (key b ≡ k.0)) }
+    ensures back { (b : BlockAt) → HasKey b → key b ≡ k.0 → result ≡ Some b }
 {
     let level = (k.0 % 16) as u32;
     if level > 10 {
@@ -93,7 +94,7 @@ pub fn block_of(k: Key) -> Option<BlockAt>
         y: coordinate(level, gathered(place >> 1)),
         z: coordinate(level, gathered(place >> 2)),
     };
-    // A number with other bits is no key: it has bits above the curve's, or bits below the block's level.
+    // What is no key has bits above the curve's, or bits on levels finer than its own.
     if key_of(b) == k { Some(b) } else { None }
 }
 
