@@ -1,9 +1,8 @@
 -- What a fill of a list of contents makes of the mesh.
-use Rattle.std.proofs.Common.{eq-eqb, ◌⊎◌, ◌≡◌, ◌≢◌, ℕ, zero, suc, ◌<◌, ◌≤◌, Bool, true, false, List, [], ◌∷◌, length, get_or, set, replicate, ℤ, pos, inl, inr, refl, sym, ap, subst, ◌∙◌, arith, get_or-set_other, get_or-set_same}
+use Rattle.std.proofs.Common.{eq-eqb, ◌⊎◌, ◌≡◌, ◌≢◌, ℕ, zero, suc, ◌<◌, Bool, true, false, List, [], length, get_or, set, replicate, ℤ, pos, inl, inr, refl, sym, ap, subst, ◌∙◌, arith, get_or-set_other, get_or-set_same}
 use Rattle.std.proofs.Math.ListN.{length-set}
 use Rattle.std.proofs.lemmas.Bool.{cases_Bool, eqb-true}
-use Rattle.std.proofs.lemmas.List.{get_or-replicate}
-use Rattle.std.specs.Prelude.{◌==◌, if◌then◌else◌, slice_index_or}
+use Rattle.std.specs.Prelude.{◌==◌, if◌then◌else◌}
 use Rattle.amr_num.specs.declared.CellAt.{CellAt}
 use Rattle.mesh_model.specs.declared.Shape.{Shape}
 use Rattle.mesh_model.specs.declared.script.Declared.{Declared}
@@ -18,9 +17,9 @@ use Rattle.amr_engine.proofs.Uniform.{cell_again, leaf_is_cell, place_inside}
 filled_at : (s : Shape) (row : IsRow s) (old new : List ℤ) (value : ℤ) (test : CellAt → Bool) → length old ≡ cell_count s → IsFilledBelow (length old) (λ p. test (cell_at s p)) value old new → (c : CellAt) → on_cells (start_grid s) (content_in s new) c ≡ on_cells (start_grid s) (λ d. if test d then value else on_cells (start_grid s) (content_in s old) d) c
 filled_at s row old new value test whole filled c = elim (cases_Bool (is_leaf (start_grid s) c)) [
   | inl leaf ↦
-    let cell = leaf_is_cell s c row leaf in
-    let inside : place s c < length old = let l = place_inside s c cell in omega arith in
-    rw leaf (filled.taken (place s c) inside ∙ ap (λ d. if test d then value else get_or old (place s c) (pos 0)) (cell_again s c cell))
+      let cell = leaf_is_cell s c row leaf in
+      let inside : place s c < length old = let l = place_inside s c cell in omega arith in
+      rw leaf (filled.taken (place s c) inside ∙ ap (λ d. if test d then value else get_or old (place s c) (pos 0)) (cell_again s c cell))
   | inr other ↦ rw other refl
 ]
 

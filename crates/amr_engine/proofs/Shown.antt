@@ -1,14 +1,13 @@
 -- What is printed of the mesh is what its lists of contents have.
-use Rattle.std.proofs.Common.{◌≡◌, ℕ, zero, suc, ◌+◌, ◌<◌, ◌++◌, ◌+ℤ◌, List, [], ◌∷◌, get_or, map, ℤ, pos, refl, sym, ap, ap₂, ◌∙◌, arith}
+use Rattle.std.proofs.Common.{◌≡◌, ℕ, zero, suc, ◌+◌, ◌<◌, ◌++◌, ◌+ℤ◌, List, [], get_or, map, ℤ, refl, sym, ap, ap₂, ◌∙◌, arith}
 use Rattle.std.specs.List.{range_with_len}
 use Rattle.std.specs.Prelude.{flat_map}
-use Rattle.amr_num.specs.Numbers.{sum_below}
 use Rattle.amr_num.proofs.Parts.{sum_below_same}
 use Rattle.amr_num.specs.declared.BlockAt.{BlockAt}
 use Rattle.mesh_model.specs.declared.Shape.{Shape}
 use Rattle.mesh_model.specs.declared.script.Declared.{Declared}
 use Rattle.mesh_model.specs.declared.script.Group.TheVariants.{Cell}
-use Rattle.mesh_model.specs.Plain.{is_leaf, on_cells}
+use Rattle.mesh_model.specs.Plain.{on_cells}
 use Rattle.mesh_model.specs.Start.{start_grid, start_leaves}
 use Rattle.mesh_model.specs.Texts.{cell_block_text, in_block, number_line, variable_text}
 use Rattle.mesh_model.specs.Totals.{block_sum, box_sum, sum_over, total}

@@ -1,5 +1,5 @@
 -- The leaf cells of a row of roots, and their places in the list of contents.
-use Rattle.std.proofs.Common.{◌≡◌, ◌≢◌, ℕ, zero, suc, ◌+◌, ◌-◌, ◌*◌, ◌/◌, ◌%◌, ◌<◌, ◌≤◌, ◌^◌, true, List, length, map, inl, inr, refl, sym, ap, ap₂, subst, ◌∙◌, arith, mod-eq_of_lt}
+use Rattle.std.proofs.Common.{◌≡◌, ℕ, zero, suc, ◌+◌, ◌*◌, ◌/◌, ◌%◌, ◌<◌, ◌≤◌, true, map, inl, inr, sym, ap, subst, ◌∙◌, arith, mod-eq_of_lt}
 use Rattle.std.proofs.Math.Nat.{add-mul-div_left, add-mul-mod_self_left, div-eq_of_lt, div-eq_of_lt-le, div-lt_iff_lt-mul, mul-le-mul_left}
 use Rattle.std.proofs.lemmas.Bool.{cases_lt}
 use Rattle.std.specs.List.{range_with_len}
@@ -15,7 +15,6 @@ use Rattle.mesh_model.specs.Texts.{in_block}
 use Rattle.mesh_model.proofs.Roots.{root_of_row, start_row}
 use Rattle.mesh_model.proofs.Tiling.{leaf_says, leaf_shows}
 use Rattle.amr_engine.specs.Contents.{IsBlock, IsCell, IsRow, cell_at, cell_count, place}
-use Rattle.amr_engine.proofs.Places.{along_x, along_y, along_z}
 
 -- ---- the roots of a row
 

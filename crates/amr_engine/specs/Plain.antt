@@ -1,7 +1,7 @@
 -- The plain mesh that an engine stands for.
-use Rattle.std.specs.Prelude.{◌≡◌, ℕ, List, [], false, ℤ, pos, length, map, slice_index_or, None}
+use Rattle.std.specs.Prelude.{List, [], false, ℤ, pos, map, slice_index_or}
 use Rattle.amr_engine.specs.declared.engine.Engine.{Engine}
-use Rattle.amr_engine.specs.Contents.{IsUniform, content_in}
+use Rattle.amr_engine.specs.Contents.{content_in}
 use Rattle.mesh_model.specs.declared.script.Declared.{Declared}
 use Rattle.mesh_model.specs.Plain.{Mesh, on_cells}
 use Rattle.mesh_model.specs.Start.{start_grid}

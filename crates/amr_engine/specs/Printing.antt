@@ -1,11 +1,11 @@
 -- What a call prints, and the text of a cell variable by its list of contents.
-use Rattle.std.specs.Prelude.{◌≡◌, ℕ, List, [], ◌∷◌, ◌++◌, Option, Result, Ok, Err, codes, decimal, flat_map, ℤ}
+use Rattle.std.specs.Prelude.{◌≡◌, ℕ, List, ◌∷◌, ◌++◌, Option, Result, Ok, Err, codes, flat_map, ℤ}
 use Rattle.amr_num.specs.declared.BlockAt.{BlockAt}
 use Rattle.mesh_model.specs.declared.Shape.{Shape}
-use Rattle.mesh_model.specs.Texts.{array_text, block_words, in_block, number_line, places, text_line}
+use Rattle.mesh_model.specs.Texts.{block_words, number_line, places, text_line}
 use Rattle.outside_io.specs.Moved.{Rose, Takes, TakesPrefix}
 use Rattle.outside_io.specs.declared.Failed.{Failed}
-use Rattle.amr_engine.specs.Contents.{content_in, row_contents}
+use Rattle.amr_engine.specs.Contents.{row_contents}
 
 -- the sink took the text, or it failed and took the first bytes of it
 abbrev pub Prints : Result (Unit {0}) Failed → Option (List ℕ) → List ℕ → Option (List ℕ) → ℕ → ℕ → Type 0

@@ -42,8 +42,5 @@ fn are_built(lines: &[Line]) -> bool
 pub fn built(script: &Script, ranks: u32, workers: u32) -> bool
     ensures { result ≡ plain.is_built (plain_script script.now) ranks workers }
 {
-    is_built_mesh(&script.declared)
-        && ranks <= 1
-        && workers <= 1
-        && are_built(&script.lines)
+    is_built_mesh(&script.declared) && ranks <= 1 && workers <= 1 && are_built(&script.lines)
 }

@@ -215,7 +215,14 @@ fn cell_of(shape: &Shape, place: usize) -> CellAt
 
 /// Every cell of level 0 whose whole region lies in the box of the cells of `level` from `low` up to below
 /// `high` takes the value.
-pub fn fill_box(shape: &Shape, contents: &mut [i64], level: u32, low: [u32; 3], high: [u32; 3], value: i64)
+pub fn fill_box(
+    shape: &Shape,
+    contents: &mut [i64],
+    level: u32,
+    low: [u32; 3],
+    high: [u32; 3],
+    value: i64,
+)
     requires shape { IsRow shape.now }
     requires whole { length contents.old ≡ cell_count shape.now }
     requires level { level ≤ 10 }

@@ -68,7 +68,12 @@ impl Engine {
     }
 
     /// Does the command of a line: changes the mesh, or prints.
-    pub fn command<K: Sink, D: Disk>(&mut self, line: &Line, sink: &mut K, disk: &mut D) -> Result<(), Stop>
+    pub fn command<K: Sink, D: Disk>(
+        &mut self,
+        line: &Line,
+        sink: &mut K,
+        disk: &mut D,
+    ) -> Result<(), Stop>
         requires fits { IsLineOf (declared_of self.old) line.now }
         requires built { IsBuiltLine line.now }
         ensures mesh { OnOk result (plain self.new ≡ mesh_after (plain self.old) line.now.command) }
@@ -161,6 +166,12 @@ impl Engine {
         ensures declared { declared_of self.new ≡ declared_of self.old }
     {
         let total = total(&self.declared.shape, &self.contents[var as usize]);
-        print_total(sink, &mut self.line, self.declared.names.cell(var), total, 0)
+        print_total(
+            sink,
+            &mut self.line,
+            self.declared.names.cell(var),
+            total,
+            0,
+        )
     }
 }

@@ -99,25 +99,33 @@ fn each_write_may_fail(rt: HostRuntime) -> Result<(), Fail> {
         let (status, sink) = run(rt.alloc(), &[], SCRIPT, outside)?;
         assert_eq!(rt; status, Status::WriteFault, "write {failing_write}");
         assert!(rt; PRINTED.starts_with(sink.taken()));
-        assert_eq!(rt; lines_in(sink.taken()) as u64 + 1, failing_write);
+        assert_eq!(rt; lines_in(sink.taken()) as u64, failing_write - 1);
     }
     Ok(())
 }
 
 #[test]
-fn refuses_words_and_scripts_that_are_too_long(rt: HostRuntime) -> Result<(), Fail> {
-    let mut script = Vec::from_slice(rt.alloc(), b"domain 1 1 1\nend\n")?;
-    let (status, sink) = run(rt.alloc(), &[], &script, QUIET)?;
-    assert_eq!(rt; (status, sink.taken().len()), (Status::Done, 0));
-    script.resize(1 << 20, b'\n')?;
-    let (status, sink) = run(rt.alloc(), &[], &script, QUIET)?;
-    assert_eq!(rt; (status, sink.taken().len()), (Status::Done, 0));
-    script.push(b'\n')?;
-    let (status, sink) = run(rt.alloc(), &[], &script, QUIET)?;
-    assert_eq!(rt; status, Status::Script);
-    assert_eq!(rt; sink.taken(), b"error: script line 0: too long\n".as_slice());
+fn a_script_has_at_most_two_to_the_twentieth_bytes(rt: HostRuntime) -> Result<(), Fail> {
+    let refused = b"error: script line 0: too long\n".as_slice();
+    let table = [
+        (17, Status::Done, b"".as_slice()),
+        (1 << 20, Status::Done, b"".as_slice()),
+        ((1 << 20) + 1, Status::Script, refused),
+    ];
+    for (bytes, answer, printed) in table {
+        let mut script = Vec::from_slice(rt.alloc(), b"domain 1 1 1\nend\n")?;
+        script.resize(bytes, b'\n')?;
+        let (status, sink) = run(rt.alloc(), &[], &script, QUIET)?;
+        assert_eq!(rt; status, answer, "{bytes} bytes");
+        assert_eq!(rt; sink.taken(), printed);
+    }
+    Ok(())
+}
+
+#[test]
+fn words_are_refused(rt: HostRuntime) -> Result<(), Fail> {
     let words = vec![in rt.alloc(); String::from_str(rt.alloc(), "--ranks")?]?;
-    let (status, sink) = run(rt.alloc(), &words, &script, QUIET)?;
+    let (status, sink) = run(rt.alloc(), &words, SCRIPT, QUIET)?;
     assert_eq!(rt; status, Status::Words);
     assert!(rt; sink.taken().starts_with(b"error: words; usage: amr "));
     Ok(())
@@ -126,7 +134,10 @@ fn refuses_words_and_scripts_that_are_too_long(rt: HostRuntime) -> Result<(), Fa
 /// Scripts that are not run, and what is said of them.
 const REFUSED: [(&[u8], &[u8]); 4] = [
     (b"", b"error: script line 1: end missing\n"),
-    (b"domain 1 1 1\nfill all 2\nend\n", b"error: script line 2: wrong number of words\n"),
+    (
+        b"domain 1 1 1\nfill all 2\nend\n",
+        b"error: script line 2: wrong number of words\n",
+    ),
     (b"domain 1 2 1\nend\n", b"error: not built\n"),
     (b"domain 1 1 1\nregrid\nend\n", b"error: not built\n"),
 ];

@@ -145,12 +145,12 @@ guards_text m Face b =
     let n = m.grid.shape.n in
     let g = m.grid.shape.g in
     flat_map (λ a. text_line (codes "guards" ∷ group_name m.names Face ∷ axis_name a ∷ block_words b)
-      ++ array_text (longer_on a X n + 2 * g) (longer_on a Y n + 2 * g) (longer_on a Z n + 2 * g) (λ i j k. face_guard m.grid m.faces a b.level (guard_index n g b.x i) (guard_index n g b.y j) (guard_index n g b.z k))) (X ∷ Y ∷ Z ∷ [])
+    ++ array_text (longer_on a X n + 2 * g) (longer_on a Y n + 2 * g) (longer_on a Z n + 2 * g) (λ i j k. face_guard m.grid m.faces a b.level (guard_index n g b.x i) (guard_index n g b.y j) (guard_index n g b.z k))) (X ∷ Y ∷ Z ∷ [])
 guards_text m Edge b =
     let n = m.grid.shape.n in
     let g = m.grid.shape.g in
     flat_map (λ a. text_line (codes "guards" ∷ group_name m.names Edge ∷ axis_name a ∷ block_words b)
-      ++ array_text (longer_across a X n + 2 * g) (longer_across a Y n + 2 * g) (longer_across a Z n + 2 * g) (λ i j k. edge_guard m.grid m.edges a b.level (guard_index n g b.x i) (guard_index n g b.y j) (guard_index n g b.z k))) (X ∷ Y ∷ Z ∷ [])
+    ++ array_text (longer_across a X n + 2 * g) (longer_across a Y n + 2 * g) (longer_across a Z n + 2 * g) (λ i j k. edge_guard m.grid m.edges a b.level (guard_index n g b.x i) (guard_index n g b.y j) (guard_index n g b.z k))) (X ∷ Y ∷ Z ∷ [])
 
 -- ---- why a script is refused
 

@@ -1,4 +1,4 @@
-use Rattle.std.proofs.Common.{◌≡◌, ◌+◌, ◌≤◌, sym, ap, subst, ◌∙◌, arith, true, false, set, length, w64, to_z, of_z, ℕ, ℤ, Bool}
+use Rattle.std.proofs.Common.{◌≡◌, ◌+◌, ◌≤◌, sym, ap, subst, ◌∙◌, arith, length, w64, to_z, of_z, ℕ, ℤ, Bool}
 use Rattle.std.proofs.lemmas.Int.{to_z-of_z}
 use Rattle.mesh_model.specs.Fill.{is_in_box}
 use Rattle.amr_engine.specs.Contents.{IsFilledBelow, cell_at}

@@ -1,4 +1,4 @@
-use Rattle.std.proofs.Common.{◌∙◌, sym, arith}
+use Rattle.std.proofs.Common.{arith}
 use Rattle.amr_engine.proofs.Places.{place_in_row}
 use Rattle.amr_engine.proofs.contents.place_of.Goals as goal
 

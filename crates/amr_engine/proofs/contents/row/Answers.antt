@@ -1,6 +1,4 @@
-use Rattle.std.proofs.Common.{◌≡◌, ◌≤◌, ◌<◌, ◌+◌, ◌-◌, ◌*◌, pos, get_or, length, take, drop, ap, ◌∙◌, sym, arith, map}
-use Rattle.std.specs.Prelude.{slice_index_or}
-use Rattle.amr_engine.specs.Contents.{cell_count, place}
+use Rattle.std.proofs.Common.{◌≡◌, ◌≤◌, ◌+◌, ◌-◌, pos, get_or, length, take, drop, ap, ◌∙◌, sym, arith}
 use Rattle.amr_engine.proofs.Places.{few_cells, place_along, row_within}
 use Rattle.amr_engine.proofs.Rows.{map_places_same, part_by_places}
 use Rattle.amr_engine.proofs.contents.row.Goals as goal

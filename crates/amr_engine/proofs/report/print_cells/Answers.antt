@@ -1,9 +1,6 @@
-use Rattle.std.proofs.Common.{◌≡◌, List, ℕ, map, length, sym, ap, subst, arith, ◌∙◌}
+use Rattle.std.proofs.Common.{sym, subst, arith, ◌∙◌}
 use Rattle.std.proofs.lemmas.Result.{err_from_is_err_and}
-use Rattle.std.specs.List.{range_with_len}
-use Rattle.std.specs.Prelude.{flat_map}
-use Rattle.mesh_model.specs.Start.{start_leaves}
-use Rattle.mesh_model.proofs.Roots.{root_of_row, start_row}
+use Rattle.mesh_model.proofs.Roots.{root_of_row}
 use Rattle.outside_io.specs.Moved.{Rose, Takes, TakesPrefix}
 use Rattle.amr_engine.specs.Printing.{block_text}
 use Rattle.amr_engine.proofs.Printed.{more_printed, place_failed, places_done}

@@ -1,9 +1,8 @@
-use Rattle.std.proofs.Common.{◌≡◌, ◌<◌, ◌+◌, ◌-◌, ◌++◌, ◌∷◌, length, get_or, take, drop, map, pos, w64, to_z, of_z, ap, sym, ◌∙◌, arith, length-take, length-drop, rules}
+use Rattle.std.proofs.Common.{◌≡◌, ◌<◌, ◌+◌, ◌-◌, ◌++◌, ◌∷◌, length, get_or, take, drop, pos, w64, ap, sym, ◌∙◌, arith, length-take, length-drop, rules}
 use Rattle.std.proofs.lemmas.Grind.{common_steps}
 use Rattle.std.proofs.lemmas.Int.{to_z-of_z}
 use mir.Val.{SFits}
 use Rattle.std.specs.Fmt.{signed_decimal}
-use Rattle.std.specs.List.{join_with_byte}
 use Rattle.amr_engine.proofs.Joined.{join_take}
 use Rattle.amr_engine.proofs.report.write_numbers.Goals as goal
 

@@ -1,4 +1,4 @@
-use Rattle.std.proofs.Common.{◌≡◌, List, ℕ, ℤ, pos, [], ◌∷◌, get_or, length, subst, sym, ap, ◌∙◌, rules, to_z, of_z}
+use Rattle.std.proofs.Common.{List, ℕ, ℤ, pos, [], ◌∷◌, get_or, subst, sym, ap, ◌∙◌, rules, to_z, of_z}
 use Rattle.std.specs.Int.{w128}
 use Rattle.std.proofs.lemmas.Int.{to_z-of_z}
 use Rattle.std.specs.Fmt.{signed_decimal}

@@ -1,4 +1,4 @@
-use Rattle.std.proofs.Common.{◌≡◌, ◌<◌, List, ℕ, ℤ, [], get_or, length, subst, sym, ap, ◌∙◌}
+use Rattle.std.proofs.Common.{◌<◌, List, ℕ, [], get_or, length, subst, sym, ap, ◌∙◌}
 use Rattle.std.specs.Prelude.{flat_map}
 use Rattle.mesh_model.specs.Commands.{IsGroup}
 use Rattle.mesh_model.specs.Start.{start_leaves}

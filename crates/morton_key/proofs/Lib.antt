@@ -1,0 +1,3 @@
+pub mod Respacing
+pub mod Interleaving
+pub mod Placing
