@@ -8,7 +8,7 @@ use Rattle.mesh_model.specs.Blocks.{is_first_child, parent_block}
 use Rattle.mesh_model.specs.Limits.{most_nodes}
 use Rattle.mesh_model.specs.Plain.{Mesh, on_faces, is_leaf, is_leaf_face, is_leaf_edge, is_canonical, is_canonical_edge}
 use Rattle.mesh_model.specs.Order.{begun_at, nodes}
-use Rattle.mesh_model.specs.Valid.{ValidMesh, FewNodes, InRange}
+use Rattle.mesh_model.specs.Valid.{ValidMesh, FewNodes, InRange, OfDeclared}
 use Rattle.mesh_model.specs.Regrid.{regrid, new_grid}
 use Rattle.mesh_model.specs.Advect.{Speeds, advect}
 use Rattle.mesh_model.specs.Induct.{with_faces}
@@ -27,6 +27,34 @@ not_both : (o : Option (List ℕ)) → IsSome o → o ≡ None → ⊥
 not_both None t h = cc
 not_both (Some x) t h = cc
 
+-- numbers stay with what is declared
+pub regrid_declared : (m : Mesh) → ValidMesh m → OfDeclared (regrid m)
+regrid_declared m valid = record {
+  few = valid.declared.few;
+  cells = λ v h c. off_or (is_leaf (new_grid m) c) (no_cell_views m.grid (m.cells v) (valid.declared.cells v h) c);
+  outs = valid.declared.outs;
+  faces = λ h f. off_or (is_canonical m.grid.shape f && is_leaf_face (new_grid m) f) (no_face_views m.grid m.faces (valid.declared.faces h) f);
+  edges = λ h e. off_or (is_canonical_edge m.grid.shape e && is_leaf_edge (new_grid m) e) (no_edge_views m.grid m.edges (valid.declared.edges h) e);
+}
+
+pub advect_declared : (m : Mesh) (var : ℕ) (n : Speeds) → ValidMesh m → var < length m.names.cells → OfDeclared (advect m var n)
+advect_declared m var n valid there = record {
+  few = valid.declared.few;
+  cells = λ v h c. rw (ne_eqb v var (λ e. absurd (omega arith))) (valid.declared.cells v h c);
+  outs = λ v h. rw (ne_eqb v var (λ e. absurd (omega arith))) (valid.declared.outs v h);
+  faces = valid.declared.faces;
+  edges = valid.declared.edges;
+}
+
+pub faces_declared : (m : Mesh) (k : FaceAt → ℤ) → ValidMesh m → IsSome m.names.face → OfDeclared (with_faces m (on_faces m.grid k))
+faces_declared m k valid there = record {
+  few = valid.declared.few;
+  cells = valid.declared.cells;
+  outs = valid.declared.outs;
+  faces = λ h f. absurd (not_both m.names.face there h);
+  edges = valid.declared.edges;
+}
+
 -- regrid, where nodes and numbers keep the limits
 pub regrid_valid : (m : Mesh) → ValidMesh m → FewNodes (new_grid m) → InRange (regrid m) → ValidMesh (regrid m)
 regrid_valid m valid few range = record {
@@ -34,13 +62,7 @@ regrid_valid m valid few range = record {
   order = new_grid_sorted m valid;
   nodes = few;
   numbers = regrid_on_leaves m;
-  declared = record {
-    few = valid.declared.few;
-    cells = λ v h c. off_or (is_leaf (new_grid m) c) (no_cell_views m.grid (m.cells v) (valid.declared.cells v h) c);
-    outs = valid.declared.outs;
-    faces = λ h f. off_or (is_canonical m.grid.shape f && is_leaf_face (new_grid m) f) (no_face_views m.grid m.faces (valid.declared.faces h) f);
-    edges = λ h e. off_or (is_canonical_edge m.grid.shape e && is_leaf_edge (new_grid m) e) (no_edge_views m.grid m.edges (valid.declared.edges h) e);
-  };
+  declared = regrid_declared m valid;
   range = range;
   marks = record { refine = λ b h. cc; derefine = λ b h. cc };
 }
@@ -51,13 +73,7 @@ advect_valid m var n valid there range = record {
   order = valid.order;
   nodes = valid.nodes;
   numbers = advect_on_leaves m var n valid.numbers;
-  declared = record {
-    few = valid.declared.few;
-    cells = λ v h c. rw (ne_eqb v var (λ e. absurd (omega arith))) (valid.declared.cells v h c);
-    outs = λ v h. rw (ne_eqb v var (λ e. absurd (omega arith))) (valid.declared.outs v h);
-    faces = valid.declared.faces;
-    edges = valid.declared.edges;
-  };
+  declared = advect_declared m var n valid there;
   range = range;
   marks = record { refine = valid.marks.refine; derefine = valid.marks.derefine };
 }
@@ -68,13 +84,7 @@ faces_valid m k valid there range = record {
   order = valid.order;
   nodes = valid.nodes;
   numbers = faces_on_leaves m k valid.numbers;
-  declared = record {
-    few = valid.declared.few;
-    cells = valid.declared.cells;
-    outs = valid.declared.outs;
-    faces = λ h f. absurd (not_both m.names.face there h);
-    edges = valid.declared.edges;
-  };
+  declared = faces_declared m k valid there;
   range = range;
   marks = record { refine = valid.marks.refine; derefine = valid.marks.derefine };
 }

@@ -5,10 +5,12 @@ use Rattle.amr_num.specs.declared.SideKind.TheVariants.{Periodic}
 use Rattle.amr_num.specs.declared.BlockAt.{BlockAt}
 use Rattle.amr_num.specs.declared.FaceAt.{FaceAt}
 use Rattle.mesh_model.specs.declared.Shape.{Shape}
+use Rattle.mesh_model.specs.declared.script.Group.TheVariants.{Cell, Face}
+use Rattle.mesh_model.specs.declared.stops.Spot.TheVariants as spots
 use Rattle.mesh_model.specs.Blocks.{children}
 use Rattle.mesh_model.specs.Coordinates.{wrapped}
 use Rattle.mesh_model.specs.Plain.{Grid, Mesh, is_leaf_block, is_split_block, is_leaf_face, is_split_face, is_leaf_edge, is_split_edge}
-use Rattle.mesh_model.specs.RangeWalk.{CellAbove, OutAbove, FaceAbove, block_faces, canonical_face, is_above, first_excess}
+use Rattle.mesh_model.specs.RangeWalk.{block_faces, canonical_face, is_above, first_excess}
 
 shape_of : ℕ → Shape
 shape_of rx = record { rx = rx; ry = 1; rz = 1; n = 4; g = 1; min = 0; max = 1; sides = Periodic ∷ Periodic ∷ Periodic ∷ Periodic ∷ Periodic ∷ Periodic ∷ [] }
@@ -46,14 +48,14 @@ out_of_range cells outs = record {
   derefine = λ b. false;
 }
 
-cells_come_first : first_excess (out_of_range true true) ≡ Some (CellAbove 1 (record { level = 0; x = 2; y = 1; z = 3 }))
+cells_come_first : first_excess (out_of_range true true) ≡ Some (record { var = Cell 1; spot = spots.Cell (record { level = 0; x = 2; y = 1; z = 3 }); value = pos 1099511627777 })
 unfolding first_excess out_of_range shape_of root wrapped is_leaf_face is_split_face is_leaf_edge is_split_edge is_leaf_block is_split_block
 cells_come_first = refl
 
-then_what_flowed_out : first_excess (out_of_range false true) ≡ Some (OutAbove 0)
+then_what_flowed_out : first_excess (out_of_range false true) ≡ Some (record { var = Cell 0; spot = spots.Out; value = pos 1267650600228229401496703205377 })
 unfolding first_excess out_of_range shape_of root wrapped is_leaf_face is_split_face is_leaf_edge is_split_edge is_leaf_block is_split_block
 then_what_flowed_out = refl
 
-then_faces_with_x_fastest : first_excess (out_of_range false false) ≡ Some (FaceAbove (x_face 0 3 0 0))
+then_faces_with_x_fastest : first_excess (out_of_range false false) ≡ Some (record { var = Face; spot = spots.Face (x_face 0 3 0 0); value = pos 1099511627777 })
 unfolding first_excess out_of_range shape_of root x_face wrapped is_leaf_face is_split_face is_leaf_edge is_split_edge is_leaf_block is_split_block
 then_faces_with_x_fastest = refl

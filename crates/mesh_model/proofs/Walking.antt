@@ -13,11 +13,12 @@ use Rattle.amr_num.specs.declared.Axis.TheVariants.{X, Y, Z}
 use Rattle.amr_num.specs.declared.FaceAt.{FaceAt}
 use Rattle.amr_num.specs.declared.EdgeAt.{EdgeAt}
 use Rattle.mesh_model.specs.declared.Shape.{Shape}
+use Rattle.mesh_model.specs.declared.stops.RangeStop.{RangeStop}
 use Rattle.mesh_model.specs.Limits.{IsShape}
 use Rattle.mesh_model.specs.Coordinates.{on, with, extent, is_periodic, below, above, wrapped, moved, moved_twice, next, face_of, edge_of, face_numbers, edge_numbers, low_cell, high_cell, round_edge}
 use Rattle.mesh_model.specs.Plain.{Grid, Mesh, block_of, is_leaf, holds, is_leaf_face, is_split_face, is_leaf_edge, is_split_edge, is_canonical, is_canonical_edge, is_canonical_at}
 use Rattle.mesh_model.specs.Valid.{IsIn, OnLeaves, OfDeclared}
-use Rattle.mesh_model.specs.RangeWalk.{Excess, CellAbove, OutAbove, FaceAbove, EdgeAbove, box_list, in_block, block_cells, block_faces, block_edges, canonical_face, canonical_edge, cells_walked, faces_walked, edges_walked, is_above, first_of_all, variables, first_excess}
+use Rattle.mesh_model.specs.RangeWalk.{cell_above, out_above, face_above, edge_above, first_cell_above, box_list, in_block, block_cells, block_faces, block_edges, canonical_face, canonical_edge, cells_walked, faces_walked, edges_walked, is_above, first_of_all, variables, first_excess}
 use Rattle.mesh_model.proofs.ShapeLimits.{cells_some, extent_some}
 use Rattle.mesh_model.proofs.Tests.{and_left, and_right, either_true}
 use Rattle.mesh_model.proofs.Beside.{with_level, with_own}
@@ -91,7 +92,7 @@ map_none : {A B : Type 0} (f : A → B) (p : Option A) → option_map f p ≡ No
 map_none f None h = refl
 map_none f (Some x) h = cc
 
-all_none : (at : ℕ → Option Excess) (v : ℕ) (vs : List ℕ) → first_of_all at vs ≡ None → Member v vs → at v ≡ None
+all_none : (at : ℕ → Option RangeStop) (v : ℕ) (vs : List ℕ) → first_of_all at vs ≡ None → Member v vs → at v ≡ None
 all_none at v [] h i = absurd i
 all_none at v (w ∷ vs) h (inl e) = ap at (sym e) ∙ (or_none (at w) (first_of_all at vs) h).0
 all_none at v (w ∷ vs) h (inr i) = all_none at v vs (or_none (at w) (first_of_all at vs) h).1 i
@@ -125,7 +126,7 @@ contents_in_range m some on declared h v c = elim (cases_lt v (length m.names.ce
   | inl lt ↦ elim (cases_Bool (is_leaf m.grid c)) [
     | inl t ↦
         let none = (or_none _ _ h).0 in
-        let here = map_none (CellAbove v) (find (λ d. is_above (2 ^ 40) (m.cells v d)) (cells_walked m.grid)) (all_none (λ u. option_map (CellAbove u) (find (λ d. is_above (2 ^ 40) (m.cells u d)) (cells_walked m.grid))) v (variables m) none (member_range 0 (length m.names.cells) v (omega arith) (omega arith))) in
+        let here = map_none (cell_above m v) (find (λ d. is_above (2 ^ 40) (m.cells v d)) (cells_walked m.grid)) (all_none (first_cell_above m) v (variables m) none (member_range 0 (length m.names.cells) v (omega arith) (omega arith))) in
         not_above (2 ^ 40) (m.cells v c) (find_none (λ d. is_above (2 ^ 40) (m.cells v d)) c (cells_walked m.grid) here (cell_walked m.grid c some t))
     | inr f ↦ zero_within (2 ^ 40) (m.cells v c) (on.cells v c f)
   ]
@@ -138,7 +139,7 @@ outs_in_range m declared h v = elim (cases_lt v (length m.names.cells)) [
   | inl lt ↦
       let place : Member v (variables m) = member_range 0 (length m.names.cells) v (omega arith) (omega arith) in
       let rest = (or_none _ _ h).1 in
-      let here = map_none OutAbove (find (λ u. is_above (2 ^ 100) (m.outs u)) (variables m)) (or_none _ _ rest).0 in
+      let here = map_none (out_above m) (find (λ u. is_above (2 ^ 100) (m.outs u)) (variables m)) (or_none _ _ rest).0 in
       not_above (2 ^ 100) (m.outs v) (find_none (λ u. is_above (2 ^ 100) (m.outs u)) v (variables m) here place)
   | inr le ↦ zero_within (2 ^ 100) (m.outs v) (declared.outs v le)
 ]
@@ -284,7 +285,7 @@ faces_in_range m shape on h f = elim (cases_Bool (is_canonical m.grid.shape f &&
       let place = face_walked m.grid f shape t in
       let leaf = and_right (is_canonical m.grid.shape f) (is_leaf_face m.grid f) t in
       let rest = (or_none _ _ (or_none _ _ (or_none _ _ h).1).1).0 in
-      let here = map_none FaceAbove (find (λ d. is_leaf_face m.grid d && is_above (2 ^ 40) (m.faces d)) (faces_walked m.grid)) rest in
+      let here = map_none (face_above m) (find (λ d. is_leaf_face m.grid d && is_above (2 ^ 40) (m.faces d)) (faces_walked m.grid)) rest in
       let none = find_none (λ d. is_leaf_face m.grid d && is_above (2 ^ 40) (m.faces d)) f (faces_walked m.grid) here place in
       not_above (2 ^ 40) (m.faces f) (sym (ap (λ u. u && is_above (2 ^ 40) (m.faces f)) leaf) ∙ none)
   | inr n ↦ zero_within (2 ^ 40) (m.faces f) (on.faces f n)
@@ -414,11 +415,11 @@ edges_in_range m shape on h e = elim (cases_Bool (is_canonical_edge m.grid.shape
   | inl t ↦
       let place = edge_walked m.grid e shape t in
       let leaf = and_right (is_canonical_edge m.grid.shape e) (is_leaf_edge m.grid e) t in
-      let cells = first_of_all (λ v. option_map (CellAbove v) (find (λ c. is_above (2 ^ 40) (m.cells v c)) (cells_walked m.grid))) (variables m) in
-      let outs = option_map OutAbove (find (λ v. is_above (2 ^ 100) (m.outs v)) (variables m)) in
-      let faces = option_map FaceAbove (find (λ f. is_leaf_face m.grid f && is_above (2 ^ 40) (m.faces f)) (faces_walked m.grid)) in
+      let cells = first_of_all (first_cell_above m) (variables m) in
+      let outs = option_map (out_above m) (find (λ v. is_above (2 ^ 100) (m.outs v)) (variables m)) in
+      let faces = option_map (face_above m) (find (λ f. is_leaf_face m.grid f && is_above (2 ^ 40) (m.faces f)) (faces_walked m.grid)) in
       let rest = (or_none faces _ (or_none outs _ (or_none cells _ h).1).1).1 in
-      let here = map_none EdgeAbove (find (λ d. is_leaf_edge m.grid d && is_above (2 ^ 40) (m.edges d)) (edges_walked m.grid)) rest in
+      let here = map_none (edge_above m) (find (λ d. is_leaf_edge m.grid d && is_above (2 ^ 40) (m.edges d)) (edges_walked m.grid)) rest in
       let none = find_none (λ d. is_leaf_edge m.grid d && is_above (2 ^ 40) (m.edges d)) e (edges_walked m.grid) here place in
       not_above (2 ^ 40) (m.edges e) (sym (ap (λ u. u && is_above (2 ^ 40) (m.edges e)) leaf) ∙ none)
   | inr n ↦ zero_within (2 ^ 40) (m.edges e) (on.edges e n)

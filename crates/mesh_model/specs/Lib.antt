@@ -23,6 +23,10 @@ pub mod Commands
 pub mod Fill
 pub mod Texts
 pub mod Setting
+pub mod Tree
+pub mod TreeText
+pub mod Stops
+pub mod StopTexts
 pub mod Built
 pub mod Run
 pub mod Words

@@ -1,22 +1,27 @@
--- What commands print and make of a mesh, one after the other.
---
--- Only built scripts are run. Where a command that is not built may stop, the mesh after it is that of a run in which it does not.
-use Rattle.std.specs.Prelude.{◌≡◌, ℕ, List, [], ◌∷◌, ◌++◌, ◌+ℤ◌}
+-- What commands print and make of a mesh, one after the other, up to the first that is refused.
+use Rattle.std.specs.Prelude.{◌≡◌, ℕ, true, List, [], ◌∷◌, ◌++◌, Option, Some, None, ℤ, pos, ◌+ℤ◌, ◌≤ℤ◌}
+use Rattle.amr_num.specs.declared.CellAt.{CellAt}
+use Rattle.amr_num.specs.declared.FaceAt.{FaceAt}
 use Rattle.mesh_model.specs.declared.script.Command.{Command}
 use Rattle.mesh_model.specs.declared.script.Command.TheVariants.{FillAll, FillBox, FaceSet, EdgeSet, Uniform, MarkRefine, MarkDerefine, RefineWhere, DerefineWhere, Regrid, Advect, Curl, Induct, Checkpoint, PrintSize, PrintMesh, PrintTree, PrintRanks, PrintTrace, PrintVar, PrintGuards, Total, NetFlux}
+use Rattle.mesh_model.specs.declared.script.Declared.{Declared}
 use Rattle.mesh_model.specs.declared.script.Line.{Line}
+use Rattle.mesh_model.specs.declared.stops.Refusal.{Refusal}
 use Rattle.mesh_model.specs.Advect.{advect}
 use Rattle.mesh_model.specs.Commands.{PlainScript}
 use Rattle.mesh_model.specs.Fill.{fill_all, fill_box}
 use Rattle.mesh_model.specs.Induct.{curl, induct, uniform}
-use Rattle.mesh_model.specs.Plain.{Mesh}
+use Rattle.mesh_model.specs.Laws.{Balanced}
+use Rattle.mesh_model.specs.Plain.{Mesh, is_leaf}
 use Rattle.mesh_model.specs.Regrid.{regrid}
 use Rattle.mesh_model.specs.Setting.{derefine_where, mark_derefine, mark_refine, refine_where, set_edge, set_face, three}
 use Rattle.mesh_model.specs.Start.{start_mesh}
+use Rattle.mesh_model.specs.Stops.{refusal}
 use Rattle.mesh_model.specs.Texts.{guards_text, mesh_text, netflux_text, size_text, total_text, variable_text}
 use Rattle.mesh_model.specs.Totals.{total}
+use Rattle.mesh_model.specs.TreeText.{tree_text}
 
--- what a command prints; the texts of a tree, of ranks and of a trace are not given yet, and no built script asks for them
+-- what a command prints; the texts of ranks and of a trace are not given yet, and no built script asks for them
 abbrev pub text_of : Mesh → Command → List ℕ
 text_of m (FillAll var value) = []
 text_of m (FillBox var level low high value) = []
@@ -34,7 +39,7 @@ text_of m (Induct speeds) = []
 text_of m Checkpoint = []
 text_of m PrintSize = size_text m
 text_of m PrintMesh = mesh_text m
-text_of m PrintTree = []
+text_of m PrintTree = tree_text m
 text_of m PrintRanks = []
 text_of m PrintTrace = []
 text_of m (PrintVar group) = variable_text m group
@@ -42,7 +47,7 @@ text_of m (PrintGuards group at) = guards_text m group at
 text_of m (Total var) = total_text m var
 text_of m NetFlux = netflux_text m
 
--- the mesh after it
+-- the mesh after it, where it is not refused
 abbrev pub mesh_after : Mesh → Command → Mesh
 mesh_after m (FillAll var value) = fill_all m var value
 mesh_after m (FillBox var level low high value) = fill_box m var level low high value
@@ -77,10 +82,44 @@ texts m (line ∷ lines) = text_of m line.command ++ texts (mesh_after m line.co
 abbrev pub first_mesh : PlainScript → Mesh
 first_mesh s = start_mesh s.declared.shape s.declared.names
 
--- R holds at each command of a run, of the mesh before it, the command and the mesh after it
+-- what is declared of a mesh
+abbrev pub declared_in : Mesh → Declared
+declared_in m = record { shape = m.grid.shape; names = m.names }
+
+-- R holds at each of the commands: of the mesh before it, the command and the mesh after it
 abbrev pub AtEachCommand : (Mesh → Command → Mesh → Type 0) → Mesh → List Line → Type 0
 AtEachCommand R m [] = Unit {0}
 AtEachCommand R m (line ∷ lines) = R m line.command (mesh_after m line.command) × AtEachCommand R (mesh_after m line.command) lines
+
+-- the mesh after the commands, in order
+abbrev pub mesh_of : Mesh → List Line → Mesh
+mesh_of m [] = m
+mesh_of m (line ∷ lines) = mesh_of (mesh_after m line.command) lines
+
+-- ---- up to the first command that is refused
+
+-- the lines whose commands are done: those before the first that is refused
+abbrev pub done : Mesh → List Line → List Line
+done m [] = []
+done m (line ∷ lines) = elim (refusal m line.command) [
+  | None ↦ line ∷ done (mesh_after m line.command) lines
+  | Some why ↦ []
+]
+
+-- a command that is refused: the number of its line, and why
+pub record Refused : Type 0 where
+  pub line : ℕ
+  pub why : Refusal
+
+-- the first command that is refused, where one is
+abbrev pub stop : Mesh → List Line → Option Refused
+stop m [] = None
+stop m (line ∷ lines) = elim (refusal m line.command) [
+  | None ↦ stop (mesh_after m line.command) lines
+  | Some why ↦ Some (record { line = line.number; why = why })
+]
+
+-- ---- what commands keep
 
 -- the command fills the variable
 abbrev pub Fills : Command → ℕ → Type 0
@@ -108,11 +147,29 @@ Fills (PrintGuards group at) v = ⊥
 Fills (Total var) v = ⊥
 Fills NetFlux v = ⊥
 
+-- the command moves what has flowed out of the variable
+abbrev pub Advects : Command → ℕ → Type 0
+Advects command v = (speeds : List ℤ) × (command ≡ Advect v speeds)
+
 -- the total of a variable and what has flowed out of it are together what they were, unless the command filled it
 abbrev pub KeepsTotals : Mesh → Command → Mesh → Type 0
 KeepsTotals before command after = (v : ℕ) → ¬ Fills command v → total after.grid (after.cells v) +ℤ after.outs v ≡ total before.grid (before.cells v) +ℤ before.outs v
 
--- the mesh after the commands, in order
-abbrev pub mesh_of : Mesh → List Line → Mesh
-mesh_of m [] = m
-mesh_of m (line ∷ lines) = mesh_of (mesh_after m line.command) lines
+-- and what has flowed out of it is what it was, unless the command advects it
+abbrev pub KeepsOuts : Mesh → Command → Mesh → Type 0
+KeepsOuts before command after = (v : ℕ) → ¬ Advects command v → after.outs v ≡ before.outs v
+
+-- no leaf cell of the variable has a content below 0
+abbrev pub NoneNegative : Mesh → ℕ → Type 0
+NoneNegative m v = (c : CellAt) → is_leaf m.grid c ≡ true → pos 0 ≤ℤ m.cells v c
+
+-- an advect leaves no content below 0 where none was
+abbrev pub StaysPositive : Mesh → Command → Mesh → Type 0
+StaysPositive before command after = (v : ℕ) → Advects command v → NoneNegative before v → NoneNegative after v
+
+-- where each leaf cell has net flux 0 it has it afterwards, unless the command set a single face
+abbrev pub SetsFace : Command → Type 0
+SetsFace command = (at : FaceAt) × (value : ℤ) × (command ≡ FaceSet at value)
+
+abbrev pub KeepsBalance : Mesh → Command → Mesh → Type 0
+KeepsBalance before command after = ¬ SetsFace command → Balanced before.grid before.faces → Balanced after.grid after.faces

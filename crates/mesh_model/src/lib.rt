@@ -9,6 +9,7 @@ pub mod names;
 mod outside;
 pub mod run;
 pub mod script;
+pub mod stops;
 mod touch;
 pub mod values;
 

@@ -1,5 +1,5 @@
-use Rattle.mesh_model.proofs.RunTotals as laws
+use Rattle.mesh_model.proofs.RunLaws as laws
 use Rattle.mesh_model.proofs.run.runs_keep_totals.Goals as goal
 
 pub returns : goal.returns
-returns c m lines built = laws.runs_keep_totals m lines built
+returns c = record { totals = laws.runs_keep_totals; outs = laws.runs_keep_outs }

@@ -1,0 +1,47 @@
+//! Why a command is refused, and where the reason stands.
+
+use crate::script::Group;
+use amr_num::{BlockAt, CellAt, EdgeAt, FaceAt};
+
+/// Where a number of a mesh stands. Faces and edges are named by their canonical positions.
+#[derive(Clone, Copy, Debug, PartialEq, Eq)]
+pub enum Spot {
+    Cell(CellAt),
+    Face(FaceAt),
+    Edge(EdgeAt),
+    /// What has flowed out of a cell variable.
+    Out,
+}
+
+/// A number out of range: a leaf number above 2^40 in absolute value, or what has flowed out of a variable
+/// above 2^100.
+#[derive(Clone, Copy, Debug, PartialEq, Eq)]
+pub struct RangeStop {
+    pub var: Group,
+    pub spot: Spot,
+    pub value: i128,
+}
+
+/// A leaf that may not be marked: its level, and the limit at which it stands.
+#[derive(Clone, Copy, Debug, PartialEq, Eq)]
+pub struct LevelStop {
+    pub level: u32,
+    pub limit: u32,
+}
+
+/// Why a command is refused. It leaves the mesh then.
+#[derive(Clone, Copy, Debug, PartialEq, Eq)]
+pub enum Refusal {
+    /// It would store a number out of range: the first of them in the walk through the mesh.
+    Range(RangeStop),
+    /// Its speeds move more than one finest cell a step.
+    Courant([i64; 3]),
+    /// It marks a leaf at the limit of levels.
+    Level(LevelStop),
+    /// It names no canonical leaf face, or no canonical leaf edge.
+    Place(Spot),
+    /// It names no leaf.
+    PlaceBlock(BlockAt),
+    /// It would make more nodes than the limit: how many.
+    Blocks(u32),
+}
