@@ -3,3 +3,4 @@ pub mod LineWords
 pub mod Printing
 pub mod Plain
 pub mod Stopping
+pub mod Built

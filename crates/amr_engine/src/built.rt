@@ -1,4 +1,4 @@
-ghost use Rattle.mesh_model.specs.Built as plain;
+ghost use Rattle.amr_engine.specs.Built as plain;
 ghost use Rattle.mesh_model.specs.Commands.{plain_script};
 ghost use Rattle.std.specs.List.{list_all};
 ghost use Rattle.std.specs.Prelude.{◌≡◌};
@@ -19,7 +19,7 @@ fn is_built_command(command: Command) -> bool
 }
 
 /// Whether meshes as declared are built.
-#[tactic(auto, unfolding(mesh_model::specs::Built::is_built_mesh))]
+#[tactic(auto, unfolding(crate::specs::Built::is_built_mesh))]
 fn is_built_mesh(declared: &Declared) -> bool
     ensures { result ≡ plain.is_built_mesh declared.now }
 {
@@ -38,7 +38,7 @@ fn are_built(lines: &[Line]) -> bool
 
 /// Whether all that the script asks for is built, for so many ranks and workers. What is not built is
 /// not run.
-#[tactic(auto, unfolding(mesh_model::specs::Built::is_built))]
+#[tactic(auto, unfolding(crate::specs::Built::is_built))]
 pub fn built(script: &Script, ranks: u32, workers: u32) -> bool
     ensures { result ≡ plain.is_built (plain_script script.now) ranks workers }
 {

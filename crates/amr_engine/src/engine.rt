@@ -42,7 +42,7 @@ impl Engine {
     ghost use Rattle.amr_engine.specs.Plain.{declared_of, plain};
     ghost use Rattle.amr_engine.specs.Printing.{Prints};
     ghost use Rattle.amr_engine.specs.Stopping.{IsCause};
-    ghost use Rattle.mesh_model.specs.Built.{IsBuiltLine};
+    ghost use Rattle.amr_engine.specs.Built.{IsBuiltLine};
     ghost use Rattle.mesh_model.specs.Commands.{IsBox, IsCellVariable, IsGroup, IsLineOf};
     ghost use Rattle.mesh_model.specs.Fill.{fill_all as plain_fill_all, fill_box as plain_fill_box};
     ghost use Rattle.mesh_model.specs.Texts.{total_text, variable_text};

@@ -1,7 +1,7 @@
 -- What the clauses of the program say follows from how its run ended.
 use Rattle.std.proofs.Common.{◌≡◌, ◌≢◌, ℕ, Bool, true, false, if◌then◌else◌, ◌<◌, ◌++◌, ◌⊎◌, List, [], ◌∷◌, Option, Some, None, Result, Ok, Err, inl, inr, refl, sym, ap, subst, ◌∙◌, arith, IfSome, take, drop, map}
 use Rattle.mesh_model.specs.Commands.{PlainScript}
-use Rattle.mesh_model.specs.Built.{is_built}
+use Rattle.amr_engine.specs.Built.{is_built}
 use Rattle.mesh_model.specs.Grammar.{Fault, script_of}
 use Rattle.outside_io.specs.Moved.{Rose, Takes, TakesPrefix}
 use Rattle.amr_program.specs.declared.status.Status.{Status}

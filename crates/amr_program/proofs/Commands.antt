@@ -9,7 +9,7 @@ use Rattle.amr_engine.specs.declared.engine.Cause.TheVariants as causes
 use Rattle.amr_engine.specs.Stopping.{IsCause}
 use Rattle.amr_engine.proofs.Printed.{part_within}
 use Rattle.amr_engine.specs.Contents.{IsRow}
-use Rattle.mesh_model.specs.Built.{IsBuiltLine, is_built, is_built_mesh, is_built_command}
+use Rattle.amr_engine.specs.Built.{IsBuiltLine, is_built, is_built_mesh, is_built_command}
 use Rattle.mesh_model.specs.Commands.{InLimits, PlainScript}
 use Rattle.mesh_model.specs.Grammar.{Fault}
 use Rattle.mesh_model.specs.Plain.{Mesh}

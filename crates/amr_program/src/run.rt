@@ -2,7 +2,7 @@ ghost use Rattle.amr_engine.specs.Plain.{declared_of, plain};
 ghost use Rattle.amr_program.specs.Answer.{admitted};
 ghost use Rattle.amr_program.specs.Lines.{memory_line, read_line, refusal_line, words_line};
 ghost use Rattle.amr_program.specs.Outcome.{Came, Ended, RunStops, Wrote};
-ghost use Rattle.mesh_model.specs.Built.{IsBuiltLine, is_built};
+ghost use Rattle.amr_engine.specs.Built.{IsBuiltLine, is_built};
 ghost use Rattle.mesh_model.specs.Commands.{InLimits, IsLineOf, plain_script};
 ghost use Rattle.mesh_model.specs.Grammar.{script_of};
 ghost use Rattle.mesh_model.specs.Run.{texts};

@@ -27,7 +27,6 @@ pub mod Tree
 pub mod TreeText
 pub mod Stops
 pub mod StopTexts
-pub mod Built
 pub mod Run
 pub mod Words
 pub mod Forms

@@ -5,7 +5,7 @@ use Rattle.mesh_model.specs.Run.{texts}
 use Rattle.mesh_model.specs.Start.{start_mesh}
 use Rattle.outside_io.specs.Moved.{Takes}
 use Rattle.amr_program.specs.Outcome.{RunStops}
-use Rattle.mesh_model.specs.Built.{IsBuiltLine}
+use Rattle.amr_engine.specs.Built.{IsBuiltLine}
 use Rattle.amr_program.proofs.Commands.{built_lines, built_mesh, built_names, built_row, starved_after, starved_first}
 use Rattle.amr_program.proofs.run.run_script.Goals as goal
 
