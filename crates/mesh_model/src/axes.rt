@@ -20,7 +20,7 @@ pub(crate) fn after(axis: Axis) -> Axis
 }
 
 /// How many roots stand side by side on an axis.
-pub(crate) fn roots(shape: &Shape, axis: Axis) -> u32
+pub fn roots(shape: &Shape, axis: Axis) -> u32
     ensures { result ≡ coordinates.roots shape.now axis }
 {
     match axis {
@@ -31,7 +31,7 @@ pub(crate) fn roots(shape: &Shape, axis: Axis) -> u32
 }
 
 /// Whether the axis is periodic.
-pub(crate) fn is_periodic(shape: &Shape, axis: Axis) -> bool
+pub fn is_periodic(shape: &Shape, axis: Axis) -> bool
     requires { IsShape shape.now }
     ensures { result ≡ coordinates.is_periodic shape.now axis }
 {
@@ -56,7 +56,7 @@ pub(crate) fn power_of_two(k: u32) -> u32
 }
 
 /// How many cells of `level` stand side by side on an axis.
-pub(crate) fn extent(shape: &Shape, axis: Axis, level: u32) -> u32
+pub fn extent(shape: &Shape, axis: Axis, level: u32) -> u32
     requires shape { IsShape shape.now }
     requires level { level ≤ 10 }
     ensures value { result ≡ coordinates.extent shape.now axis level }
@@ -67,7 +67,7 @@ pub(crate) fn extent(shape: &Shape, axis: Axis, level: u32) -> u32
 }
 
 /// The number of a cell, or the position of a face or an edge, on an axis.
-pub(crate) fn place(axis: Axis, c: CellAt) -> u32
+pub fn place(axis: Axis, c: CellAt) -> u32
     ensures { result ≡ on axis c }
 {
     match axis {
@@ -78,7 +78,7 @@ pub(crate) fn place(axis: Axis, c: CellAt) -> u32
 }
 
 /// `c` with another coordinate on an axis.
-pub(crate) fn placed(axis: Axis, coordinate: u32, c: CellAt) -> CellAt
+pub fn placed(axis: Axis, coordinate: u32, c: CellAt) -> CellAt
     ensures { result ≡ with axis coordinate c }
 {
     match axis {

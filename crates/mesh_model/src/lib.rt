@@ -2,7 +2,7 @@
 #![tactic(auto)]
 
 mod adjacent;
-mod axes;
+pub mod axes;
 pub mod coordinates;
 pub mod laws;
 pub mod names;
