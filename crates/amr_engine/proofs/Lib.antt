@@ -1,6 +1,11 @@
 pub mod Joined
 pub mod Places
+pub mod Ranges
 pub mod Printed
+pub mod Stepped
+pub mod Machine
+pub mod Fluxes
+pub mod Steps
 pub mod Rows
 pub mod Uniform
 pub mod Filled

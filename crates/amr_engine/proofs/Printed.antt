@@ -8,31 +8,12 @@ use Rattle.outside_io.specs.Moved.{Rose, Takes, TakesPrefix}
 use Rattle.outside_io.specs.declared.Failed.{Failed}
 use Rattle.outside_io.proofs.Moving.{takes_more}
 use Rattle.amr_engine.specs.Printing.{Prints}
+use Rattle.amr_engine.proofs.Ranges.{flat_after, flat_next}
 
 -- what a call that writes a whole piece tells, as one fact
 pub printed : (r : Result (Unit {0}) Failed) (before after : Option (List ℕ)) (text : List ℕ) (faults new_faults : ℕ) → OnOk r (Takes before text after) → OnErr r (TakesPrefix before text after) → OnOk r (new_faults ≡ faults) → OnErr r (Rose faults new_faults) → Prints r before text after faults new_faults
 printed (Ok done) before after text faults new_faults takes part calm rose = (takes, calm)
 printed (Err failed) before after text faults new_faults takes part calm rose = (part, rose)
-
--- ---- places one after the other
-
-range_apart : (a m k : ℕ) → range_with_len a (m + k) ≡ range_with_len a m ++ range_with_len (a + m) k
-range_apart a zero k = ap₂ range_with_len (sym (add-zero a)) (zero-add k)
-range_apart a (suc m) k =
-    let e : suc m + k ≡ suc (m + k) = omega arith in
-    let h : a + 1 + m ≡ a + suc m = omega arith in
-    ap (range_with_len a) e ∙ ap (λ r. a ∷ r) (range_apart (a + 1) m k ∙ ap (λ b. range_with_len (a + 1) m ++ range_with_len b k) h)
-
--- one more place
-pub flat_next : (f : ℕ → List ℕ) (j : ℕ) → flat_map f (range_with_len 0 (j + 1)) ≡ flat_map f (range_with_len 0 j) ++ f j
-flat_next f j = ap (flat_map f) (range_apart 0 j 1) ∙ flat_map-append f (range_with_len 0 j) (range_with_len (0 + j) 1) ∙ ap₂ (λ k t. flat_map f (range_with_len 0 j) ++ (f k ++ t)) (zero-add j) refl ∙ ap (λ t. flat_map f (range_with_len 0 j) ++ t) (append-nil (f j))
-
--- what comes after a place
-pub flat_after : (f : ℕ → List ℕ) (j n : ℕ) → j < n → (rest : List ℕ) × (flat_map f (range_with_len 0 n) ≡ (flat_map f (range_with_len 0 j) ++ f j) ++ rest)
-flat_after f j n h =
-    let rest = range_with_len (0 + (j + 1)) (n - (j + 1)) in
-    let e : n ≡ j + 1 + (n - (j + 1)) = omega arith in
-    (flat_map f rest, ap (λ m. flat_map f (range_with_len 0 m)) e ∙ ap (flat_map f) (range_apart 0 (j + 1) (n - (j + 1))) ∙ flat_map-append f (range_with_len 0 (j + 1)) rest ∙ ap (λ t. t ++ flat_map f rest) (flat_next f j))
 
 -- ---- what the sink took
 

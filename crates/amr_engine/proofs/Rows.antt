@@ -10,6 +10,7 @@ use Rattle.mesh_model.specs.declared.Shape.{Shape}
 use Rattle.mesh_model.specs.Start.{start_leaves}
 use Rattle.mesh_model.proofs.Roots.{root_of_row, start_row}
 use Rattle.amr_engine.specs.Contents.{IsFilledBelow, IsRow}
+use Rattle.amr_engine.proofs.Ranges.{flat_of_map}
 use Rattle.amr_num.proofs.Parts.{sum_below_same}
 use Rattle.std.specs.List.{range_with_len}
 use Rattle.std.proofs.lemmas.Int.{ints}
@@ -69,9 +70,5 @@ module _ (k : ℕ) (test : ℕ → Bool) (value : ℤ) (old now : List ℤ) (so_
   }
 
 -- what is made of the leaves at the start, root by root
-pub flat_by_row : (s : Shape) → IsRow s → (f : BlockAt → List ℕ) → flat_map f (start_leaves s) ≡ flat_map (λ x. f (root_of_row x)) (range_with_len 0 s.rx)
-flat_by_row s row f = ap (flat_map f) (start_row s row.y row.z row.some_roots row.few_roots) ∙ flat_map-map f root_of_row (range_with_len 0 s.rx)
-  where
-    flat_map-map : {A B C : Type 0} (h : B → List C) (v : A → B) (xs : List A) → flat_map h (map v xs) ≡ flat_map (λ x. h (v x)) xs
-    flat_map-map h v [] = refl
-    flat_map-map h v (x ∷ xs) = ap (λ t. h (v x) ++ t) (flat_map-map h v xs)
+pub flat_by_row : {A : Type 0} (s : Shape) → IsRow s → (f : BlockAt → List A) → flat_map f (start_leaves s) ≡ flat_map (λ x. f (root_of_row x)) (range_with_len 0 s.rx)
+flat_by_row s row f = ap (flat_map f) (start_row s row.y row.z row.some_roots row.few_roots) ∙ flat_of_map f root_of_row (range_with_len 0 s.rx)

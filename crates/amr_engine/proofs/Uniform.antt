@@ -1,6 +1,6 @@
 -- The leaf cells of a row of roots, and their places in the list of contents.
-use Rattle.std.proofs.Common.{◌≡◌, ℕ, zero, suc, ◌+◌, ◌*◌, ◌/◌, ◌%◌, ◌<◌, ◌≤◌, true, map, inl, inr, sym, ap, subst, ◌∙◌, arith, mod-eq_of_lt}
-use Rattle.std.proofs.Math.Nat.{add-mul-div_left, add-mul-mod_self_left, div-eq_of_lt, div-eq_of_lt-le, div-lt_iff_lt-mul, mul-le-mul_left}
+use Rattle.std.proofs.Common.{◌≡◌, ℕ, zero, suc, ◌+◌, ◌*◌, ◌/◌, ◌%◌, ◌<◌, ◌≤◌, true, map, inl, inr, refl, sym, ap, subst, ◌∙◌, arith, mod-eq_of_lt}
+use Rattle.std.proofs.Math.Nat.{add-mul-div_left, div-add-mod, mod-lt, add-mul-mod_self_left, div-eq_of_lt, div-eq_of_lt-le, div-lt_iff_lt-mul, mul-le-mul_left}
 use Rattle.std.proofs.lemmas.Bool.{cases_lt}
 use Rattle.std.specs.List.{range_with_len}
 use Rattle.amr_num.specs.declared.Axis.TheVariants.{X, Y, Z}
@@ -67,6 +67,24 @@ cell_is_leaf s b i j k row block hi hj hk =
     let here = subst (λ c. IsIn c (map root_of_row (range_with_len 0 s.rx))) (root_is s b block) (row_in 0 s.rx b.x (omega arith) (omega (arith, block.x))) in
     let among = subst (λ leaves. IsIn b leaves) (sym (start_row s row.y row.z row.some_roots row.few_roots)) here in
     leaf_shows (start_grid s) (block_of s.n (in_block s.n b i j k)) (subst (λ c. IsIn c (start_grid s).leaves) same among)
+
+-- each cell of level 0 of the domain is a leaf cell
+pub leaf_of_cell : (s : Shape) (c : CellAt) → IsRow s → IsCell s c → is_leaf (start_grid s) c ≡ true
+leaf_of_cell s c row cell =
+    let n = s.n in
+    let block : BlockAt = record { level = 0; x = c.x / n; y = 0; z = 0 } in
+    let here : (u : ℕ) → n * (u / n) + u % n ≡ u = λ u. div-add-mod u n in
+    let small : (u : ℕ) → u % n < n = λ u. mod-lt u row.some_cells in
+    let x : c.x / n < s.rx = (div-lt_iff_lt-mul {k = n} {x = c.x} {y = s.rx} row.some_cells).1 (omega (arith, cell.x)) in
+    let y : c.y < n = one_root s.ry c.y row.y cell.y in
+    let z : c.z < n = one_root s.rz c.z row.z cell.z in
+    let same : in_block n block (c.x % n) c.y c.z ≡ c = λ i. record { level = sym cell.level i; x = here c.x i; y = own c.y i; z = own c.z i } in
+    subst (λ d. is_leaf (start_grid s) d ≡ true) same (cell_is_leaf s block (c.x % n) c.y c.z row (record { level = refl; x = x; y = refl; z = refl }) (small c.x) y z)
+  where
+    own : (u : ℕ) → s.n * 0 + u ≡ u
+    own u = omega arith
+    one_root : (r u : ℕ) → r ≡ 1 → u < r * s.n * 1 → u < s.n
+    one_root r u e h = let below : u < 1 * s.n * 1 = subst (λ t. u < t * s.n * 1) e h in omega arith
 
 -- ---- cells and places
 

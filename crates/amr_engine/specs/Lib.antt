@@ -3,4 +3,5 @@ pub mod LineWords
 pub mod Printing
 pub mod Plain
 pub mod Stopping
+pub mod Stepping
 pub mod Built

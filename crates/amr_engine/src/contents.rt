@@ -49,10 +49,11 @@ pub fn zeros(alloc: Global, shape: &Shape, variables: u32) -> Result<Vec<Vec<i64
 }
 
 /// The place in a variable's contents of a cell of level 0 of the domain.
-fn place_of(shape: &Shape, cell: CellAt) -> usize
+pub fn place_of(shape: &Shape, cell: CellAt) -> usize
     requires shape { IsRow shape.now }
     requires cell { IsCell shape.now cell }
-    ensures { result ≡ place shape.now cell }
+    ensures value { result ≡ place shape.now cell }
+    ensures inside { result < cell_count shape.now }
 {
     let along_x = cells_along_x(shape);
     let rows = cell.y + shape.n * cell.z;
@@ -78,6 +79,23 @@ pub fn row<'a>(shape: &Shape, contents: &'a [i64], block: BlockAt, j: u32, k: u3
         },
     );
     &contents[first..first + shape.n as usize]
+}
+
+/// The cell at the place (i, j, k) of a root.
+pub fn cell_in(shape: &Shape, block: BlockAt, i: u32, j: u32, k: u32) -> CellAt
+    requires shape { IsRow shape.now }
+    requires block { IsBlock shape.now block }
+    requires place { (i < shape.now.n) × (j < shape.now.n) × (k < shape.now.n) }
+    ensures value { result ≡ in_block shape.now.n block i j k }
+    ensures cell { IsCell shape.now result }
+{
+    let n = shape.n;
+    CellAt {
+        level: block.level,
+        x: n * block.x + i,
+        y: n * block.y + j,
+        z: n * block.z + k,
+    }
 }
 
 /// The sum of at most 8 numbers.

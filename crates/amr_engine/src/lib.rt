@@ -1,6 +1,7 @@
 // The commands of a script, done one after the other on a mesh.
 #![tactic(auto)]
 
+mod advection;
 pub mod built;
 pub mod contents;
 pub mod engine;

@@ -30,4 +30,4 @@ returns-clause-contents c =
     let fits : p + s.n ≤ length c.args.contents.now = omega arith in
     ap (λ n. take n (drop p c.args.contents.now)) size
     ∙ part_by_places c.args.contents.now p s.n fits
-    ∙ map_places_same _ _ s.n (λ i l. ap (λ q. get_or c.args.contents.now q (pos 0)) (ap (λ q. q + i) c.place_of-first.ensures ∙ sym (place_along s c.args.block i c.args.j c.args.k c.requires.shape c.requires.block)))
+    ∙ map_places_same _ _ s.n (λ i l. ap (λ q. get_or c.args.contents.now q (pos 0)) (ap (λ q. q + i) c.place_of-first.ensures.value ∙ sym (place_along s c.args.block i c.args.j c.args.k c.requires.shape c.requires.block)))

@@ -1,0 +1,12 @@
+use Rattle.std.proofs.Common.{List, ◌∷◌, [], Ok, map}
+use Rattle.std.specs.Prelude.{flat_map}
+use Rattle.std.specs.List.{range_with_len}
+use Rattle.amr_num.specs.declared.CellAt.{CellAt}
+use Rattle.mesh_model.specs.Texts.{in_block}
+use Rattle.mesh_model.specs.RangeWalk.{block_cells}
+use Rattle.mesh_model.proofs.Roots.{root_of_row}
+use Rattle.amr_engine.specs.Stepping.{Steps}
+use Rattle.amr_engine.proofs.advection.step_plane.Given as goal
+
+abbrev pub invariant-loop-j : goal.invariant-loop-j
+invariant-loop-j l = Steps l.shape l.contents l.speeds (flat_map (λ j. map (λ i. in_block l.shape.n l.block i j l.k) (range_with_len 0 l.shape.n)) (range_with_len 0 l.j)) (Ok tt) l.fn.next l.next

@@ -1,0 +1,66 @@
+-- One step of a cell variable on the cells of level 0.
+use Rattle.std.specs.Prelude.{◌≡◌, ◌≤◌, ◌⊎◌, ◌^◌, Bool, Some, None, List, [], ◌∷◌, Result, Ok, Err, OnOk, All, length, find, ℤ}
+use Rattle.amr_num.specs.Numbers.{Within}
+use Rattle.amr_num.specs.declared.CellAt.{CellAt}
+use Rattle.amr_num.specs.declared.FaceAt.{FaceAt}
+use Rattle.mesh_model.specs.declared.Shape.{Shape}
+use Rattle.mesh_model.specs.Advect.{advected, flux}
+use Rattle.mesh_model.specs.Circulation.{net_flux}
+use Rattle.mesh_model.specs.Commands.{AreThree}
+use Rattle.mesh_model.specs.Limits.{IsShape}
+use Rattle.mesh_model.specs.Plain.{on_cells}
+use Rattle.mesh_model.specs.RangeWalk.{is_above}
+use Rattle.mesh_model.specs.Setting.{three}
+use Rattle.mesh_model.specs.Start.{start_grid}
+use Rattle.amr_engine.specs.declared.advection.Above.{Above}
+use Rattle.amr_engine.specs.Contents.{IsCell, IsRow, cell_count, content_in}
+
+-- the contents as the mesh of level 0 has them
+abbrev pub field : Shape → List ℤ → CellAt → ℤ
+field s contents = on_cells (start_grid s) (content_in s contents)
+
+-- the flux through a face
+unfoldable pub flux_in : Shape → List ℤ → List ℤ → FaceAt → ℤ
+flux_in s contents speeds = flux (start_grid s) (field s contents) (three speeds)
+
+-- what a cell loses
+abbrev pub net_in : Shape → List ℤ → List ℤ → CellAt → ℤ
+net_in s contents speeds = net_flux (start_grid s) (flux_in s contents speeds)
+
+-- what a cell holds after the step
+unfoldable pub stepped : Shape → List ℤ → List ℤ → CellAt → ℤ
+stepped s contents speeds = advected (start_grid s) (field s contents) (three speeds)
+
+-- a list has of a cell what it holds after the step
+abbrev pub Holds : Shape → List ℤ → List ℤ → List ℤ → CellAt → Type 0
+Holds s contents speeds list c = content_in s list c ≡ stepped s contents speeds c
+
+-- b is one of the cells
+abbrev pub IsAmong : CellAt → List CellAt → Type 0
+IsAmong b [] = ⊥
+IsAmong b (c ∷ cs) = (c ≡ b) ⊎ IsAmong b cs
+
+-- the cell would hold a number out of range
+abbrev pub is_excess : Shape → List ℤ → List ℤ → CellAt → Bool
+is_excess s contents speeds c = is_above (2 ^ 40) (stepped s contents speeds c)
+
+-- none of the cells would, or this is the first of them that would, and the number
+abbrev pub FindsExcess : Shape → List ℤ → List ℤ → List CellAt → Result (Unit {0}) Above → Type 0
+FindsExcess s contents speeds cells (Ok done) = find (is_excess s contents speeds) cells ≡ None
+FindsExcess s contents speeds cells (Err above) = (find (is_excess s contents speeds) cells ≡ Some above.cell) × (above.value ≡ stepped s contents speeds above.cell)
+
+-- the list took what these cells hold after the step, or the first of them that would hold a number out of range is told; a cell that
+-- had what it holds after the step has it still
+pub record Steps (s : Shape) (contents speeds : List ℤ) (cells : List CellAt) (result : Result (Unit {0}) Above) (old new : List ℤ) : Type 0 where
+  pub size : length new ≡ length old
+  pub kept : (c : CellAt) → IsCell s c → Holds s contents speeds old c → Holds s contents speeds new c
+  pub made : OnOk result ((c : CellAt) → IsCell s c → IsAmong c cells → Holds s contents speeds new c)
+  pub found : FindsExcess s contents speeds cells result
+
+-- what a step takes: a row of roots, contents that leaf cells may hold, and speeds that a script may have
+pub record IsStep (s : Shape) (contents numbers : List ℤ) : Type 0 where
+  pub row : IsRow s
+  pub limits : IsShape s
+  pub whole : length contents ≡ cell_count s
+  pub small : All (Within (2 ^ 40)) contents
+  pub speeds : AreThree (2 ^ 20) numbers

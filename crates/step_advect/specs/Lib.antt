@@ -1,0 +1,2 @@
+pub mod Flux
+pub mod Settled
