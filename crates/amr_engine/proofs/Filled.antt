@@ -10,7 +10,7 @@ use Rattle.mesh_model.specs.Fill.{with_cells}
 use Rattle.mesh_model.specs.Plain.{is_leaf, on_cells}
 use Rattle.mesh_model.specs.Start.{start_grid, start_mesh}
 use Rattle.amr_engine.specs.Contents.{IsFilledBelow, IsRow, IsUniform, cell_at, cell_count, content_in, place}
-use Rattle.amr_engine.specs.Plain.{uniform_mesh}
+use Rattle.amr_engine.specs.UniformMesh.{uniform_mesh}
 use Rattle.amr_engine.proofs.Uniform.{cell_again, leaf_is_cell, place_inside}
 
 -- the contents after a fill, at each cell
@@ -24,14 +24,14 @@ filled_at s row old new value test whole filled c = elim (cases_Bool (is_leaf (s
 ]
 
 -- one variable of a uniform mesh is filled
-pub filled_mesh : (d : Declared) (contents : List (List ℤ)) (var : ℕ) (new : List ℤ) (value : ℤ) (test : CellAt → Bool) → IsUniform d contents → var < length contents → IsFilledBelow (length (get_or contents var [])) (λ p. test (cell_at d.shape p)) value (get_or contents var []) new →
-    uniform_mesh d (set contents var new) ≡ with_cells (uniform_mesh d contents) var (on_cells (start_grid d.shape) (λ c. if test c then value else (uniform_mesh d contents).cells var c))
+pub filled_mesh : (d : Declared) (contents : List (List ℤ)) (outs : List ℤ) (var : ℕ) (new : List ℤ) (value : ℤ) (test : CellAt → Bool) → IsUniform d contents outs → var < length contents → IsFilledBelow (length (get_or contents var [])) (λ p. test (cell_at d.shape p)) value (get_or contents var []) new →
+    uniform_mesh d (set contents var new) outs ≡ with_cells (uniform_mesh d contents outs) var (on_cells (start_grid d.shape) (λ c. if test c then value else (uniform_mesh d contents outs).cells var c))
 unfolding uniform_mesh
-filled_mesh d contents var new value test uniform inside filled = λ i. record {
+filled_mesh d contents outs var new value test uniform inside filled = λ i. record {
   grid = start_grid d.shape;
   names = d.names;
   cells = λ v c. each v c (cases_Bool (v == var)) i;
-  outs = λ v. pos 0;
+  outs = λ v. get_or outs v (pos 0);
   faces = λ f. pos 0;
   edges = λ e. pos 0;
   refine = λ b. false;
@@ -50,12 +50,13 @@ filled_mesh d contents var new value test uniform inside filled = λ i. record {
         rw other (ap (λ list. on_cells (start_grid d.shape) (content_in d.shape list) c) (get_or-set_other contents var v new [] ne))
 
 -- the mesh stays uniform
-pub still_uniform : (d : Declared) (contents : List (List ℤ)) (var : ℕ) (new : List ℤ) → IsUniform d contents → var < length contents → length new ≡ length (get_or contents var []) → IsUniform d (set contents var new)
-still_uniform d contents var new uniform inside size = record {
+pub still_uniform : (d : Declared) (contents : List (List ℤ)) (outs : List ℤ) (var : ℕ) (new : List ℤ) → IsUniform d contents outs → var < length contents → length new ≡ length (get_or contents var []) → IsUniform d (set contents var new) outs
+still_uniform d contents outs var new uniform inside size = record {
   shape = uniform.shape;
   faces = uniform.faces;
   edges = uniform.edges;
   each = length-set contents var new ∙ uniform.each;
+  flowed = uniform.flowed;
   whole = λ v l. each v (omega (arith, length-set contents var new, l)) (cases_Bool (v == var));
 }
   where
@@ -68,13 +69,13 @@ still_uniform d contents var new uniform inside size = record {
         ap length (get_or-set_other contents var v new [] ne) ∙ uniform.whole v l
 
 -- lists of zeros are the start mesh
-pub zero_mesh : (d : Declared) (variables count : ℕ) → uniform_mesh d (replicate variables (replicate count (pos 0))) ≡ start_mesh d.shape d.names
+pub zero_mesh : (d : Declared) (variables count : ℕ) → uniform_mesh d (replicate variables (replicate count (pos 0))) (replicate variables (pos 0)) ≡ start_mesh d.shape d.names
 unfolding uniform_mesh
 zero_mesh d variables count = λ i. record {
   grid = start_grid d.shape;
   names = d.names;
   cells = λ v c. each v c (cases_Bool (is_leaf (start_grid d.shape) c)) i;
-  outs = λ v. pos 0;
+  outs = λ v. zero_at variables v i;
   faces = λ f. pos 0;
   edges = λ e. pos 0;
   refine = λ b. false;

@@ -11,3 +11,7 @@ pub mod Uniform
 pub mod Filled
 pub mod Vectors
 pub mod Shown
+pub mod Limits
+pub mod Walked
+pub mod Advected
+pub mod Acted

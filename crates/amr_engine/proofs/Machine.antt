@@ -56,3 +56,15 @@ sum_told a b c ha hb hc =
     ap₂ (λ x y. kept_128 (kept_128 x +ℤ y)) (ap₂ (λ x y. x +ℤ y) (wide a (2 ^ 41) ha (omega arith)) (wide b (2 ^ 41) hb (omega arith))) (wide c (2 ^ 41) hc (omega arith))
     ∙ ap (λ x. kept_128 (x +ℤ c)) (wide (a +ℤ b) (2 ^ 41 + 2 ^ 41) ab (omega arith))
     ∙ wide (a +ℤ b +ℤ c) (2 ^ 43) (sum_of_three a b c ha hb hc) (omega arith)
+
+-- what flowed out, and what a total lost
+pub out_told : (out t u : ℤ) → Within (2 ^ 100) out → Within (2 ^ 75) t → Within (2 ^ 75) u → kept_128 (kept_128 (kept_128 out +ℤ kept_128 t) -ℤ kept_128 u) ≡ out +ℤ t -ℤ u
+out_told out t u ho ht hu =
+    let sum = within_add (2 ^ 100) (2 ^ 75) out t ho ht in
+    let whole : Within (2 ^ 101) (out +ℤ t -ℤ u) = less (out +ℤ t) u (omega (arith, sum)) hu in
+    ap₂ (λ x y. kept_128 (kept_128 x -ℤ y)) (ap₂ (λ x y. x +ℤ y) (wide out (2 ^ 100) ho (omega arith)) (wide t (2 ^ 75) ht (omega arith))) (wide u (2 ^ 75) hu (omega arith))
+    ∙ ap (λ x. kept_128 (x -ℤ u)) (wide (out +ℤ t) (2 ^ 100 + 2 ^ 75) sum (omega arith))
+    ∙ wide (out +ℤ t -ℤ u) (2 ^ 101) whole (omega arith)
+  where
+    less : (v u : ℤ) → Within (2 ^ 100 + 2 ^ 75) v → Within (2 ^ 75) u → Within (2 ^ 101) (v -ℤ u)
+    less v u hv hu = grind (arith, ints)

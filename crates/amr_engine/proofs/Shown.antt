@@ -13,9 +13,9 @@ use Rattle.mesh_model.specs.Texts.{cell_block_text, in_block, number_line, varia
 use Rattle.mesh_model.specs.Totals.{block_sum, box_sum, sum_over, total}
 use Rattle.mesh_model.proofs.Roots.{root_of_row, start_row}
 use Rattle.amr_engine.specs.Contents.{IsBlock, IsRow, content_in}
-use Rattle.amr_engine.specs.Plain.{uniform_mesh}
+use Rattle.amr_engine.specs.UniformMesh.{uniform_mesh}
 use Rattle.amr_engine.specs.Printing.{block_text, cell_head, plane_text, planes_text}
-use Rattle.amr_engine.proofs.Printed.{flat_next}
+use Rattle.amr_engine.proofs.Ranges.{flat_next}
 use Rattle.amr_engine.proofs.Rows.{flat_by_row, map_places_same, sum_over_more}
 use Rattle.amr_engine.proofs.Uniform.{cell_is_leaf}
 
@@ -51,19 +51,23 @@ block_shown s row name list x hx =
     ap (λ t. cell_head name (root_of_row x) ++ t) (flat_places_same _ _ s.n (λ k hk. flat_places_same _ _ s.n (λ j hj. ap number_line (map_places_same _ _ s.n (λ i hi. shown s row list x i j k hx hi hj hk)))))
 
 -- the text of a variable
-pub variable_shown : (d : Declared) (contents : List (List ℤ)) (var : ℕ) → IsRow d.shape → variable_text (uniform_mesh d contents) (Cell var) ≡ flat_map (block_text d.shape (get_or d.names.cells var []) (get_or contents var [])) (start_leaves d.shape)
+pub variable_shown : (d : Declared) (contents : List (List ℤ)) (outs : List ℤ) (var : ℕ) → IsRow d.shape → variable_text (uniform_mesh d contents outs) (Cell var) ≡ flat_map (block_text d.shape (get_or d.names.cells var []) (get_or contents var [])) (start_leaves d.shape)
 unfolding uniform_mesh cell_head
-variable_shown d contents var row =
-    flat_by_row d.shape row (cell_block_text (uniform_mesh d contents) var)
+variable_shown d contents outs var row =
+    flat_by_row d.shape row (cell_block_text (uniform_mesh d contents outs) var)
     ∙ flat_places_same _ _ d.shape.rx (λ x hx. block_shown d.shape row (get_or d.names.cells var []) (get_or contents var []) x hx)
     ∙ sym (flat_by_row d.shape row (block_text d.shape (get_or d.names.cells var []) (get_or contents var [])))
 
+-- the total of a list of contents
+pub total_of_field : (s : Shape) (list : List ℤ) → IsRow s → total (start_grid s) (on_cells (start_grid s) (content_in s list)) ≡ sum_over (block_sum s.n (content_in s list)) (start_leaves s)
+unfolding box_sum
+total_of_field s list row =
+    let leaves = start_row s row.y row.z row.some_roots row.few_roots in
+    ap (sum_over (block_sum s.n (on_cells (start_grid s) (content_in s list)))) leaves
+    ∙ sum_over_same _ _ s.rx (λ x hx. sum_below_same s.n _ _ (λ k hk. sum_below_same s.n _ _ (λ j hj. sum_below_same s.n _ _ (λ i hi. shown s row list x i j k hx hi hj hk))))
+    ∙ ap (sum_over (block_sum s.n (content_in s list))) (sym leaves)
+
 -- the total of a variable
-pub total_shown : (d : Declared) (contents : List (List ℤ)) (var : ℕ) → IsRow d.shape → total (uniform_mesh d contents).grid ((uniform_mesh d contents).cells var) ≡ sum_over (block_sum d.shape.n (content_in d.shape (get_or contents var []))) (start_leaves d.shape)
-unfolding uniform_mesh box_sum
-total_shown d contents var row =
-    let leaves = start_row d.shape row.y row.z row.some_roots row.few_roots in
-    let list = get_or contents var [] in
-    ap (sum_over (block_sum d.shape.n (on_cells (start_grid d.shape) (content_in d.shape list)))) leaves
-    ∙ sum_over_same _ _ d.shape.rx (λ x hx. sum_below_same d.shape.n _ _ (λ k hk. sum_below_same d.shape.n _ _ (λ j hj. sum_below_same d.shape.n _ _ (λ i hi. shown d.shape row list x i j k hx hi hj hk))))
-    ∙ ap (sum_over (block_sum d.shape.n (content_in d.shape list))) (sym leaves)
+pub total_shown : (d : Declared) (contents : List (List ℤ)) (outs : List ℤ) (var : ℕ) → IsRow d.shape → total (uniform_mesh d contents outs).grid ((uniform_mesh d contents outs).cells var) ≡ sum_over (block_sum d.shape.n (content_in d.shape (get_or contents var []))) (start_leaves d.shape)
+unfolding uniform_mesh
+total_shown d contents outs var row = total_of_field d.shape (get_or contents var []) row

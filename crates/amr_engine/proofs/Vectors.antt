@@ -15,7 +15,7 @@ use Rattle.mesh_model.specs.Fill.{with_cells}
 use Rattle.mesh_model.specs.Plain.{on_cells}
 use Rattle.mesh_model.specs.Start.{start_grid}
 use Rattle.amr_engine.specs.Contents.{AllAtMost, IsFilledBelow, IsRow, IsUniform, cell_at, cell_count}
-use Rattle.amr_engine.specs.Plain.{uniform_mesh}
+use Rattle.amr_engine.specs.UniformMesh.{uniform_mesh}
 use Rattle.amr_engine.proofs.Filled.{filled_mesh, still_uniform}
 
 abbrev pub contents_in : List (Vec ℤ Global) → List (List ℤ)
@@ -30,7 +30,15 @@ list_at (first ∷ lists) (suc var) list h e = list_at lists var list (omega ari
 refilled : (n : ℕ) (new old : List ℤ) → n ≡ length new → take n (new ++ drop (length new) old) ≡ new
 refilled n new old e = ap (λ m. take m (new ++ drop (length new) old)) e ∙ take-append_seam new (drop (length new) old)
 
-module _ (d : Declared) (lists : List (Vec ℤ Global)) (var : ℕ) (list : Vec ℤ Global) (now : List ℤ) (uniform : IsUniform d (contents_in lists)) (declared : var < length d.names.cells) (here : list ≡ get_or lists var list) (now_is : now ≡ list.items) where
+-- a vector whose items were all written has what was written
+pub taken_over : (v : Vec ℤ Global) (old new : List ℤ) → old ≡ v.items → length new ≡ length old → take v.len (new ++ drop (length new) v.items) ≡ new
+taken_over v old new old_is size = refilled v.len new v.items (let k = v.ok.0 in let e = ap length old_is in omega (arith, k, e, size))
+
+-- its length is how many items it has
+pub length_is : (v : Vec ℤ Global) → v.len ≡ length v.items
+length_is v = let k = v.ok.0 in omega (arith, k)
+
+module _ (d : Declared) (lists : List (Vec ℤ Global)) (outs : List ℤ) (var : ℕ) (list : Vec ℤ Global) (now : List ℤ) (uniform : IsUniform d (contents_in lists) outs) (declared : var < length d.names.cells) (here : list ≡ get_or lists var list) (now_is : now ≡ list.items) where
   inside : var < length (contents_in lists)
   inside = let e = uniform.each in omega arith
 
@@ -47,15 +55,15 @@ module _ (d : Declared) (lists : List (Vec ℤ Global)) (var : ℕ) (list : Vec 
       map-set (λ v. v.items) lists var (with_items list new) ∙ ap (set (contents_in lists) var) (refilled list.len new list.items long)
 
   -- the mesh stays uniform where it is written
-  pub written_uniform : (new : List ℤ) → length new ≡ length now → IsUniform d (contents_in (set lists var (with_items list new)))
-  written_uniform new size = subst (IsUniform d) (sym (written new size)) (still_uniform d (contents_in lists) var new uniform inside (size ∙ sym (ap length contents_are)))
+  pub written_uniform : (new : List ℤ) → length new ≡ length now → IsUniform d (contents_in (set lists var (with_items list new))) outs
+  written_uniform new size = subst (λ all. IsUniform d all outs) (sym (written new size)) (still_uniform d (contents_in lists) outs var new uniform inside (size ∙ sym (ap length contents_are)))
 
   -- the mesh where it is filled
   pub written_mesh : (new : List ℤ) (value : ℤ) (test : CellAt → Bool) → IsFilledBelow (length now) (λ p. test (cell_at d.shape p)) value now new →
-      uniform_mesh d (contents_in (set lists var (with_items list new))) ≡ with_cells (uniform_mesh d (contents_in lists)) var (on_cells (start_grid d.shape) (λ c. if test c then value else (uniform_mesh d (contents_in lists)).cells var c))
+      uniform_mesh d (contents_in (set lists var (with_items list new))) outs ≡ with_cells (uniform_mesh d (contents_in lists) outs) var (on_cells (start_grid d.shape) (λ c. if test c then value else (uniform_mesh d (contents_in lists) outs).cells var c))
   written_mesh new value test filled =
-      ap (uniform_mesh d) (written new filled.size)
-      ∙ filled_mesh d (contents_in lists) var new value test uniform inside (subst (λ old. IsFilledBelow (length old) (λ p. test (cell_at d.shape p)) value old new) (sym contents_are) filled)
+      ap (λ all. uniform_mesh d all outs) (written new filled.size)
+      ∙ filled_mesh d (contents_in lists) outs var new value test uniform inside (subst (λ old. IsFilledBelow (length old) (λ p. test (cell_at d.shape p)) value old new) (sym contents_are) filled)
 
 extent_small : (r n l : ℕ) → r ≤ 8 → n ≤ 8 → l ≤ 10 → r * n * 2 ^ l ≤ 64 * 1024
 extent_small r n l hr hn hl = mul-le (r * n) (2 ^ l) 64 1024 (mul-le r n 8 8 hr hn) (pow_mono {i = l} {j = 10} hl)

@@ -1,11 +1,12 @@
 -- The contents of the cells of level 0, as one list by coordinate: x fastest, then y, then z.
-use Rattle.std.specs.Prelude.{◌≡◌, ℕ, ◌+◌, ◌*◌, ◌/◌, ◌%◌, ◌<◌, ◌≤◌, Bool, if◌then◌else◌, List, [], length, map, ℤ, pos, None, slice_index, slice_index_or}
+use Rattle.std.specs.Prelude.{◌≡◌, ℕ, suc, ◌+◌, ◌*◌, ◌/◌, ◌%◌, ◌<◌, ◌≤◌, Bool, true, ◌||◌, ◌==◌, if◌then◌else◌, List, [], length, map, ℤ, pos, None, slice_index, slice_index_or}
+use Rattle.amr_num.specs.declared.Axis.{Axis}
 use Rattle.amr_num.specs.declared.Axis.TheVariants.{X, Y, Z}
 use Rattle.amr_num.specs.declared.BlockAt.{BlockAt}
 use Rattle.amr_num.specs.declared.CellAt.{CellAt}
 use Rattle.mesh_model.specs.declared.Shape.{Shape}
 use Rattle.mesh_model.specs.declared.script.Declared.{Declared}
-use Rattle.mesh_model.specs.Coordinates.{extent}
+use Rattle.mesh_model.specs.Coordinates.{extent, is_periodic_kind, side_index, side_kind}
 use Rattle.mesh_model.specs.Texts.{in_block, places}
 
 -- how many cells of level 0 there are
@@ -51,13 +52,26 @@ pub record IsRow (s : Shape) : Type 0 where
   pub y : s.ry ≡ 1
   pub z : s.rz ≡ 1
 
--- the variables are cell variables, and each has one content for each cell of level 0
-pub record IsUniform (d : Declared) (contents : List (List ℤ)) : Type 0 where
+-- the variables are cell variables, and each has one content for each cell of level 0 and a number that has flowed out
+pub record IsUniform (d : Declared) (contents : List (List ℤ)) (outs : List ℤ) : Type 0 where
   pub shape : IsRow d.shape
   pub faces : d.names.face ≡ None
   pub edges : d.names.edge ≡ None
   pub each : length contents ≡ length d.names.cells
+  pub flowed : length outs ≡ length d.names.cells
   pub whole : (v : ℕ) → v < length contents → length (slice_index_or contents v []) ≡ cell_count d.shape
+
+-- the shape is one of the allowed ones and there are few variables: said by tests, so that it is one fact
+pub record KeepsLimits (d : Declared) : Type 0 where
+  pub rx : (0 < d.shape.rx) × (d.shape.rx ≤ 8)
+  pub ry : (0 < d.shape.ry) × (d.shape.ry ≤ 8)
+  pub rz : (0 < d.shape.rz) × (d.shape.rz ≤ 8)
+  pub cells : ((d.shape.n == 4) || (d.shape.n == 8)) ≡ true
+  pub guards : ((d.shape.g == 1) || ((d.shape.g == 2) || (d.shape.g == 4))) ≡ true
+  pub levels : (d.shape.min ≤ d.shape.max) × (d.shape.max ≤ 10)
+  pub six : length d.shape.sides ≡ 6
+  pub both : (a : Axis) → is_periodic_kind (side_kind d.shape.sides (side_index a)) ≡ is_periodic_kind (side_kind d.shape.sides (suc (side_index a)))
+  pub few : length d.names.cells ≤ 4
 
 -- each of three numbers is at most this
 pub record AllAtMost (most : ℕ) (numbers : List ℕ) : Type 0 where

@@ -1,6 +1,7 @@
 pub mod Contents
 pub mod LineWords
 pub mod Printing
+pub mod UniformMesh
 pub mod Plain
 pub mod Stopping
 pub mod Stepping

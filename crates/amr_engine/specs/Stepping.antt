@@ -1,5 +1,5 @@
 -- One step of a cell variable on the cells of level 0.
-use Rattle.std.specs.Prelude.{◌≡◌, ◌≤◌, ◌⊎◌, ◌^◌, Bool, Some, None, List, [], ◌∷◌, Result, Ok, Err, OnOk, All, length, find, ℤ}
+use Rattle.std.specs.Prelude.{◌≡◌, ◌≤◌, ◌⊎◌, ◌^◌, Bool, Some, None, List, [], ◌∷◌, Result, Ok, Err, OnOk, All, false, true, length, find, ℤ, ◌+ℤ◌, ◌-ℤ◌}
 use Rattle.amr_num.specs.Numbers.{Within}
 use Rattle.amr_num.specs.declared.CellAt.{CellAt}
 use Rattle.amr_num.specs.declared.FaceAt.{FaceAt}
@@ -9,10 +9,14 @@ use Rattle.mesh_model.specs.Circulation.{net_flux}
 use Rattle.mesh_model.specs.Commands.{AreThree}
 use Rattle.mesh_model.specs.Limits.{IsShape}
 use Rattle.mesh_model.specs.Plain.{on_cells}
-use Rattle.mesh_model.specs.RangeWalk.{is_above}
+use Rattle.mesh_model.specs.RangeWalk.{cells_walked, is_above}
 use Rattle.mesh_model.specs.Setting.{three}
-use Rattle.mesh_model.specs.Start.{start_grid}
+use Rattle.mesh_model.specs.Start.{start_grid, start_leaves}
+use Rattle.mesh_model.specs.Stops.{keeps_courant}
+use Rattle.mesh_model.specs.Totals.{block_sum, sum_over}
 use Rattle.amr_engine.specs.declared.advection.Above.{Above}
+use Rattle.amr_engine.specs.declared.advection.Hindrance.{Hindrance}
+use Rattle.amr_engine.specs.declared.advection.Hindrance.TheVariants.{TooFast, Content, FlowedOut}
 use Rattle.amr_engine.specs.Contents.{IsCell, IsRow, cell_count, content_in}
 
 -- the contents as the mesh of level 0 has them
@@ -62,5 +66,21 @@ pub record IsStep (s : Shape) (contents numbers : List ℤ) : Type 0 where
   pub row : IsRow s
   pub limits : IsShape s
   pub whole : length contents ≡ cell_count s
-  pub small : All (Within (2 ^ 40)) contents
+  pub small : (c : CellAt) → IsCell s c → Within (2 ^ 40) (content_in s contents c)
   pub speeds : AreThree (2 ^ 20) numbers
+
+-- the sum of the contents in a list
+abbrev pub sum_in : Shape → List ℤ → ℤ
+sum_in s contents = sum_over (block_sum s.n (content_in s contents)) (start_leaves s)
+
+-- what has flowed out in all after a step: what had before, and what the total lost
+abbrev pub IsOut : Shape → List ℤ → ℤ → List ℤ → ℤ → Type 0
+IsOut s contents out next after = after ≡ out +ℤ sum_in s contents -ℤ sum_in s next
+
+-- a step that is tried: it is made, and this has flowed out in all; or the speeds are too great; or a content or what has flowed out is
+-- out of range
+abbrev pub Tries : Shape → List ℤ → List ℤ → ℤ → List ℤ → List ℤ → Result ℤ Hindrance → Type 0
+Tries s contents speeds out old next (Ok after) = (keeps_courant s (three speeds) ≡ true) × Steps s contents speeds (cells_walked (start_grid s)) (Ok tt) old next × IsOut s contents out next after × (is_above (2 ^ 100) after ≡ false)
+Tries s contents speeds out old next (Err TooFast) = keeps_courant s (three speeds) ≡ false
+Tries s contents speeds out old next (Err (Content above)) = (keeps_courant s (three speeds) ≡ true) × FindsExcess s contents speeds (cells_walked (start_grid s)) (Err above)
+Tries s contents speeds out old next (Err (FlowedOut after)) = (keeps_courant s (three speeds) ≡ true) × Steps s contents speeds (cells_walked (start_grid s)) (Ok tt) old next × IsOut s contents out next after × (is_above (2 ^ 100) after ≡ true)

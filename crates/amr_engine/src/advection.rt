@@ -1,5 +1,5 @@
 ghost use Rattle.amr_engine.specs.Contents.{IsBlock, IsCell, IsRow, cell_count, content_in};
-ghost use Rattle.amr_engine.specs.Stepping.{IsStep, Steps, flux_in, net_in};
+ghost use Rattle.amr_engine.specs.Stepping.{IsOut, IsStep, Steps, Tries, flux_in, net_in};
 ghost use Rattle.amr_num.specs.Numbers.{Within};
 ghost use Rattle.mesh_model.specs.Advect.{above_or, below_or, is_closed_kind, speed as speed_on};
 ghost use Rattle.mesh_model.specs.Commands.{AreThree};
@@ -13,7 +13,7 @@ ghost use Rattle.mesh_model.specs.Stops as stops;
 ghost use Rattle.mesh_model.specs.Texts.{in_block, places};
 ghost use Rattle.std.specs.Prelude.{◌≡◌, ◌+◌, ◌*◌, ◌^◌, ◌<◌, ◌≤◌, ◌-ℤ◌, suc, unsigned_abs, [], ◌∷◌, length, map, flat_map, All};
 
-use crate::contents::{cell_in, place_of, root};
+use crate::contents::{cell_in, place_of, root, total};
 use amr_num::{Axis, BlockAt, CellAt, SideKind};
 use mesh_model::Shape;
 use mesh_model::axes::{extent, is_periodic, place, placed};
@@ -25,6 +25,20 @@ pub struct Above {
     pub cell: CellAt,
     pub value: i128,
 }
+
+/// Why a step is not made.
+#[derive(Clone, Copy, Debug, PartialEq, Eq)]
+pub enum Hindrance {
+    /// The speeds move more than one finest cell a step.
+    TooFast,
+    /// The first cell that would hold a number out of range.
+    Content(Above),
+    /// What would have flowed out in all, which is out of range.
+    FlowedOut(i128),
+}
+
+/// The greatest absolute value of what has flowed out of a variable.
+pub const MOST_OUT: u128 = 1 << 100;
 
 /// The speeds together, whatever their signs.
 fn speeds_together(speeds: [i64; 3]) -> u64
@@ -97,7 +111,7 @@ fn high_side(shape: &Shape, axis: Axis) -> SideKind
 fn content(shape: &Shape, contents: &[i64], cell: CellAt) -> i64
     requires shape { IsRow shape.now }
     requires whole { length contents.now ≡ cell_count shape.now }
-    requires small { All (Within (2 ^ 40)) contents.now }
+    requires small { Within (2 ^ 40) (content_in shape.now contents.now cell) }
     requires cell { IsCell shape.now cell }
     ensures value { result ≡ content_in shape.now contents.now cell }
     ensures small { Within (2 ^ 40) result }
@@ -293,4 +307,42 @@ pub fn step(
         step_block(shape, contents, speeds, root(x), next)?;
     }
     Ok(())
+}
+
+/// What has flowed out in all after a step made `next` of the contents: what had flowed out before, and what the total lost.
+fn flowed_out(shape: &Shape, contents: &[i64], out: i128, next: &[i64]) -> i128
+    requires row { IsRow shape.now }
+    requires whole { length contents.now ≡ cell_count shape.now }
+    requires next { length next.now ≡ cell_count shape.now }
+    requires out { Within (2 ^ 100) out }
+    ensures { IsOut shape.now contents.now out next.now result }
+{
+    out + total(shape, contents) - total(shape, next)
+}
+
+/// Makes one step of a variable in `next`, and gives what has flowed out of it in all, which was `out` before.
+pub fn try_step(
+    shape: &Shape,
+    contents: &[i64],
+    out: i128,
+    speeds: [i64; 3],
+    next: &mut [i64],
+) -> Result<i128, Hindrance>
+    requires step { IsStep shape.now contents.now speeds }
+    requires out { Within (2 ^ 100) out }
+    requires whole { length next.old ≡ cell_count shape.now }
+    ensures tries { Tries shape.now contents.now speeds out next.old next.new result }
+    ensures size { length next.new ≡ length next.old }
+{
+    if !keeps_courant(shape, speeds) {
+        return Err(Hindrance::TooFast);
+    }
+    if let Err(above) = step(shape, contents, speeds, next) {
+        return Err(Hindrance::Content(above));
+    }
+    let out = flowed_out(shape, contents, out, next);
+    if out.unsigned_abs() > MOST_OUT {
+        return Err(Hindrance::FlowedOut(out));
+    }
+    Ok(out)
 }

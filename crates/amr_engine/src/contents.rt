@@ -29,18 +29,35 @@ fn cells_in(shape: &Shape) -> usize
     (cells_along_x(shape) * across) as usize
 }
 
+/// A list of zeros, one for each cell of level 0.
+pub fn zero_list(alloc: Global, shape: &Shape) -> Result<Vec<i64>, OutOfMemory>
+    requires { IsRow shape.now }
+    ensures { IfOk result (λ list. list.items ≡ replicate (cell_count shape.now) (pos 0)) }
+{
+    match vec![in alloc; 0i64; cells_in(shape)] {
+        Ok(list) => Ok(list),
+        Err(_) => Err(OutOfMemory),
+    }
+}
+
+/// What has flowed out of each variable at the start, which is nothing.
+pub fn zero_outs(alloc: Global, variables: u32) -> Result<Vec<i128>, OutOfMemory>
+    ensures { IfOk result (λ list. list.items ≡ replicate variables (pos 0)) }
+{
+    match vec![in alloc; 0i128; variables as usize] {
+        Ok(list) => Ok(list),
+        Err(_) => Err(OutOfMemory),
+    }
+}
+
 /// A list of zeros for each cell variable, one for each cell of level 0.
 pub fn zeros(alloc: Global, shape: &Shape, variables: u32) -> Result<Vec<Vec<i64>>, OutOfMemory>
     requires { IsRow shape.now }
     ensures { IfOk result (λ lists. map (λ list. list.items) lists.items ≡ replicate variables (replicate (cell_count shape.now) (pos 0))) }
 {
-    let cells = cells_in(shape);
     let mut lists = Vec::new(alloc);
     for _variable in 0..variables {
-        let list = match vec![in alloc; 0i64; cells] {
-            Ok(list) => list,
-            Err(_) => return Err(OutOfMemory),
-        };
+        let list = zero_list(alloc, shape)?;
         if lists.push(list).is_err() {
             return Err(OutOfMemory);
         }
@@ -170,7 +187,8 @@ pub fn root(x: u32) -> BlockAt
 pub fn total(shape: &Shape, contents: &[i64]) -> i128
     requires shape { IsRow shape.now }
     requires whole { length contents.now ≡ cell_count shape.now }
-    ensures { result ≡ sum_over (block_sum shape.now.n (content_in shape.now contents.now)) (start_leaves shape.now) }
+    ensures value { result ≡ sum_over (block_sum shape.now.n (content_in shape.now contents.now)) (start_leaves shape.now) }
+    ensures small { Within (2 ^ 75) result }
 {
     let mut sum: i128 = 0;
     for x in 0..shape.rx {

@@ -1,8 +1,11 @@
-use crate::contents::{fill_all, fill_box, total, zeros};
+use crate::advection::{Hindrance, try_step};
+use crate::contents::{fill_all, fill_box, total, zero_list, zero_outs, zeros};
 use crate::line_text::LineText;
 use crate::report::{print_cells, print_total};
 use amr_num::OutOfMemory;
+use mesh_model::names::Names;
 use mesh_model::script::{Command, Declared, Group, Line};
+use mesh_model::stops::{RangeStop, Spot};
 use outside_io::Failed;
 use outside_io::disk::Disk;
 use outside_io::sink::Sink;
@@ -11,6 +14,10 @@ use std::alloc::Global;
 /// Why a command stopped.
 #[derive(Clone, Copy, Debug, PartialEq, Eq)]
 pub enum Cause {
+    /// It would store a number out of range: the first of them in the walk through the mesh.
+    Range(RangeStop),
+    /// Its speeds move more than one finest cell a step.
+    Courant([i64; 3]),
     /// The sink failed.
     WriteFault,
     /// Memory was refused.
@@ -24,47 +31,107 @@ pub struct Stop {
     pub cause: Cause,
 }
 
-/// A mesh of one level, on which the commands of a script are done: one list of contents for each cell
-/// variable, by coordinate.
+/// A mesh of one level, on which the commands of a script are done: for each cell variable one list of contents, by
+/// coordinate, and what has flowed out of it.
 #[derive(Drop)]
 pub struct Engine {
     declared: Declared,
     contents: Vec<Vec<i64>>,
+    outs: Vec<i128>,
+    /// Room for what a step makes of a list of contents.
+    next: Vec<i64>,
     line: LineText,
-    ghost uniform: { IsUniform declared (map (λ list. list.items) contents.items) },
+    ghost uniform: { IsUniform declared (map (λ list. list.items) contents.items) outs.items },
+    ghost limits: { KeepsLimits declared },
+    ghost range: { InRange (uniform_mesh declared (map (λ list. list.items) contents.items) outs.items) },
+    ghost room: { length next.items ≡ cell_count declared.shape },
 }
 
-ghost use Rattle.amr_engine.specs.Contents.{IsUniform};
-ghost use Rattle.std.specs.Prelude.{map};
+ghost use Rattle.amr_engine.specs.Contents.{IsUniform, KeepsLimits, cell_count};
+ghost use Rattle.amr_engine.specs.UniformMesh.{uniform_mesh};
+ghost use Rattle.mesh_model.specs.Valid.{InRange, ValidMesh};
+ghost use Rattle.std.specs.Prelude.{◌≡◌, ◌^◌, MatchResult, Ok, Err, length, map};
+
+/// The stop of a variable that would have a number out of range.
+fn out_of_range(var: u32, spot: Spot, value: i128) -> Cause
+    ensures { result ≡ Cause.Range (record { var = Group.Cell var; spot = spot; value = value }) }
+{
+    Cause::Range(RangeStop {
+        var: Group::Cell(var),
+        spot,
+        value,
+    })
+}
+
+impl Cause {
+    ghost use Rattle.amr_engine.specs.Stopping.{cause_told};
+
+    /// Why an advect of the variable at the speeds stops.
+    fn of_advect(var: u32, speeds: [i64; 3], hindrance: Hindrance) -> Cause
+        ensures { result ≡ cause_told var speeds hindrance }
+    {
+        match hindrance {
+            Hindrance::TooFast => Cause::Courant(speeds),
+            Hindrance::Content(above) => out_of_range(var, Spot::Cell(above.cell), above.value),
+            Hindrance::FlowedOut(out) => out_of_range(var, Spot::Out, out),
+        }
+    }
+}
+
+/// A call that prints stops a command where the sink fails.
+fn written(printed: Result<(), Failed>) -> Result<(), Cause>
+    ensures { MatchResult printed (λ done. result ≡ Ok tt) (λ failed. result ≡ Err Cause.WriteFault) }
+{
+    match printed {
+        Ok(()) => Ok(()),
+        Err(Failed) => Err(Cause::WriteFault),
+    }
+}
 
 impl Engine {
+    ghost use Rattle.amr_engine.specs.Built.{IsBuiltLine, is_built_command};
     ghost use Rattle.amr_engine.specs.Contents.{IsRow};
     ghost use Rattle.amr_engine.specs.Plain.{declared_of, plain};
     ghost use Rattle.amr_engine.specs.Printing.{Prints};
-    ghost use Rattle.amr_engine.specs.Stopping.{IsCause};
-    ghost use Rattle.amr_engine.specs.Built.{IsBuiltLine};
-    ghost use Rattle.mesh_model.specs.Commands.{IsBox, IsCellVariable, IsGroup, IsLineOf};
+    ghost use Rattle.amr_engine.specs.Stopping.{Acts, Changes, IsCause};
+    ghost use Rattle.mesh_model.specs.Commands.{AreThree, IsBox, IsCellVariable, IsCommandOf, IsGroup, IsLeafNumber, IsLineOf};
     ghost use Rattle.mesh_model.specs.Fill.{fill_all as plain_fill_all, fill_box as plain_fill_box};
-    ghost use Rattle.mesh_model.specs.Texts.{total_text, variable_text};
-    ghost use Rattle.mesh_model.specs.Run.{mesh_after, text_of};
+    ghost use Rattle.mesh_model.specs.Limits.{IsShape};
+    ghost use Rattle.mesh_model.specs.Run.{KeepsOuts, KeepsTotals, StaysPositive, mesh_after, text_of};
     ghost use Rattle.mesh_model.specs.Start.{start_mesh};
+    ghost use Rattle.mesh_model.specs.Stops.{refusal};
+    ghost use Rattle.mesh_model.specs.Texts.{total_text, variable_text};
     ghost use Rattle.outside_io.specs.Moved.{Takes};
-    ghost use Rattle.std.specs.Prelude.{◌≡◌, IfErr, IfOk, None, OnErr, OnOk};
+    ghost use Rattle.std.specs.Prelude.{◌≢◌, ◌≤◌, true, IfErr, IfOk, None, OnErr, OnOk};
 
     /// The start mesh of what was declared: all contents 0.
     pub fn new(alloc: Global, declared: Declared) -> Result<Engine, OutOfMemory>
-        requires shape { IsRow declared.shape }
+        requires row { IsRow declared.shape }
+        requires shape { IsShape declared.shape }
         requires groups { (declared.names.face ≡ None) × (declared.names.edge ≡ None) }
+        requires few { length declared.names.cells ≤ 4 }
         ensures mesh { IfOk result (λ engine. plain engine ≡ start_mesh declared.shape declared.names) }
         ensures declared { IfOk result (λ engine. declared_of engine ≡ declared) }
     {
-        let contents = zeros(alloc, &declared.shape, declared.names.cells())?;
+        let variables = declared.names.cells();
+        let contents = zeros(alloc, &declared.shape, variables)?;
+        let outs = zero_outs(alloc, variables)?;
+        let next = zero_list(alloc, &declared.shape)?;
         let line = LineText::new(alloc)?;
         Ok(Engine {
             declared,
             contents,
+            outs,
+            next,
             line,
         })
+    }
+
+    /// The names of the variables.
+    pub fn names(&self) -> &Names
+        ensures { result.now ≡ (declared_of self.now).names }
+    {
+        &self.declared.names
     }
 
     /// Does the command of a line: changes the mesh, or prints.
@@ -80,17 +147,40 @@ impl Engine {
         ensures text { OnOk result (Takes (K.taken sink.old) (text_of (plain self.old) line.now.command) (K.taken sink.new)) }
         ensures calm { OnOk result (K.faults sink.new ≡ K.faults sink.old) }
 
-        // A command that is stopped leaves the mesh.
+        // It stops exactly where the mesh refuses the command, or the sink fails; it leaves the mesh then.
+        ensures allowed { OnOk result (refusal (plain self.old) line.now.command ≡ None) }
         ensures line { IfErr result (λ stop. stop.line ≡ line.now.number) }
-        ensures cause { IfErr result (λ stop. IsCause stop.cause (K.taken sink.old) (text_of (plain self.old) line.now.command) (K.taken sink.new) (K.faults sink.old) (K.faults sink.new)) }
+        ensures cause { IfErr result (λ stop. IsCause stop.cause (plain self.old) line.now.command (record { before = K.taken sink.old; after = K.taken sink.new; faults = K.faults sink.old; new_faults = K.faults sink.new })) }
         ensures refused { OnErr result (plain self.new ≡ plain self.old) }
 
+        // What a command keeps: totals with what has flowed out, what has flowed out, and contents that are not below 0.
+        ensures totals { OnOk result (KeepsTotals (plain self.old) line.now.command (plain self.new)) }
+        ensures outs { OnOk result (KeepsOuts (plain self.old) line.now.command (plain self.new)) }
+        ensures positive { OnOk result (StaysPositive (plain self.old) line.now.command (plain self.new)) }
+        ensures valid { ValidMesh (plain self.new) }
+
         // These commands take no memory, and none calls the disk.
-        ensures memory { IfErr result (λ stop. stop.cause ≡ Cause.WriteFault) }
+        ensures memory { IfErr result (λ stop. stop.cause ≢ Cause.OutOfMemory) }
         ensures disk { disk.new ≡ disk.old }
         ensures declared { declared_of self.new ≡ declared_of self.old }
     {
-        let done = match line.command {
+        match self.act(line.command, sink) {
+            Ok(()) => Ok(()),
+            Err(cause) => Err(Stop {
+                line: line.number,
+                cause,
+            }),
+        }
+    }
+
+    /// Does a command.
+    fn act<K: Sink>(&mut self, command: Command, sink: &mut K) -> Result<(), Cause>
+        requires fits { IsCommandOf (declared_of self.old) command }
+        requires built { is_built_command command ≡ true }
+        ensures acts { Acts result (plain self.old) command (plain self.new) (record { before = K.taken sink.old; after = K.taken sink.new; faults = K.faults sink.old; new_faults = K.faults sink.new }) }
+        ensures declared { declared_of self.new ≡ declared_of self.old }
+    {
+        match command {
             Command::FillAll { var, value } => {
                 self.fill_all(var, value);
                 Ok(())
@@ -105,22 +195,37 @@ impl Engine {
                 self.fill_box(var, level, low, high, value);
                 Ok(())
             }
-            Command::PrintVar { group } => self.print_variable(group, sink),
-            Command::Total { var } => self.print_total(var, sink),
+            Command::Advect { var, speeds } => self.advect(var, speeds),
+            Command::PrintVar { group } => written(self.print_variable(group, sink)),
+            Command::Total { var } => written(self.print_total(var, sink)),
             _ => unreachable!(),
-        };
-        match done {
-            Ok(()) => Ok(()),
-            Err(Failed) => Err(Stop {
-                line: line.number,
-                cause: Cause::WriteFault,
-            }),
+        }
+    }
+
+    /// Makes one step of the variable.
+    fn advect(&mut self, var: u32, speeds: [i64; 3]) -> Result<(), Cause>
+        requires variable { IsCellVariable (declared_of self.old).names var }
+        requires speeds { AreThree (2 ^ 20) speeds }
+        ensures changes { Changes result (plain self.old) (Command.Advect var speeds) (plain self.new) }
+        ensures declared { declared_of self.new ≡ declared_of self.old }
+    {
+        let shape = &self.declared.shape;
+        let contents = &self.contents[var as usize];
+        let out = self.outs[var as usize];
+        match try_step(shape, contents, out, speeds, &mut self.next) {
+            Ok(out) => {
+                self.contents[var as usize].copy_from_slice(&self.next);
+                self.outs[var as usize] = out;
+                Ok(())
+            }
+            Err(hindrance) => Err(Cause::of_advect(var, speeds, hindrance)),
         }
     }
 
     /// Every leaf cell of the variable takes the value.
     fn fill_all(&mut self, var: u32, value: i64)
-        requires { IsCellVariable (declared_of self.old).names var }
+        requires variable { IsCellVariable (declared_of self.old).names var }
+        requires value { IsLeafNumber value }
         ensures mesh { plain self.new ≡ plain_fill_all (plain self.old) var value }
         ensures declared { declared_of self.new ≡ declared_of self.old }
     {
@@ -132,6 +237,7 @@ impl Engine {
     fn fill_box(&mut self, var: u32, level: u32, low: [u32; 3], high: [u32; 3], value: i64)
         requires variable { IsCellVariable (declared_of self.old).names var }
         requires place { IsBox (declared_of self.old).shape level low high }
+        requires value { IsLeafNumber value }
         ensures mesh { plain self.new ≡ plain_fill_box (plain self.old) var level low high value }
         ensures declared { declared_of self.new ≡ declared_of self.old }
     {
@@ -171,7 +277,7 @@ impl Engine {
             &mut self.line,
             self.declared.names.cell(var),
             total,
-            0,
+            self.outs[var as usize],
         )
     }
 }

@@ -16,8 +16,8 @@ loop-x-preserved c =
     let one : c.block_total-sum.result ≡ block_sum s.n (content_in s c.args.contents.now) (root_of_row c.loop-x.x) = c.block_total-sum.ensures.value ∙ ap (block_sum s.n (content_in s c.args.contents.now)) root in
     grind (arith, ints, common_steps)
 
-pub returns : goal.returns
-returns c =
+pub returns-clause-value : goal.returns-clause-value
+returns-clause-value c =
     let s = c.args.shape.now in
     let leaves = start_row s c.requires.shape.y c.requires.shape.z c.requires.shape.some_roots c.requires.shape.few_roots in
     let all : c.loop-x.x ≡ s.rx = omega arith in

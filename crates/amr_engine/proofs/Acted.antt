@@ -1,0 +1,132 @@
+-- An advect of a variable, from what was read of an engine.
+use Rattle.std.proofs.Common.{◌≡◌, ℕ, ◌+◌, ◌^◌, ◌<◌, ◌≤◌, Bool, true, false, List, [], ◌++◌, None, Some, Result, Ok, Err, length, set, get_or, take, drop, map, ℤ, pos, ◌+ℤ◌, ◌-ℤ◌, refl, sym, ap, ap₂, subst, ◌∙◌, arith, inl, inr, Vec, Global}
+use Rattle.std.proofs.Math.ListN.{length-set}
+use Rattle.std.proofs.lemmas.Bool.{cases_Bool, cases_lt, lt-ltb}
+use Rattle.std.proofs.lemmas.List.{get_or_default, map-set}
+use Rattle.std.specs.Prelude.{unsigned_abs}
+use Rattle.amr_num.specs.Numbers.{Within}
+use Rattle.amr_num.specs.declared.CellAt.{CellAt}
+use Rattle.mesh_model.specs.declared.script.Command.TheVariants.{Advect}
+use Rattle.mesh_model.specs.declared.script.Declared.{Declared}
+use Rattle.mesh_model.specs.declared.stops.Refusal.{Refusal}
+use Rattle.mesh_model.specs.Advect.{advect}
+use Rattle.mesh_model.specs.Commands.{AreThree}
+use Rattle.mesh_model.specs.Plain.{Mesh}
+use Rattle.mesh_model.specs.RangeWalk.{is_above}
+use Rattle.mesh_model.specs.Setting.{three}
+use Rattle.mesh_model.specs.Stops.{keeps_courant, refusal}
+use Rattle.mesh_model.specs.Valid.{InRange, ValidMesh}
+use Rattle.mesh_model.proofs.RunValid.{keeps_validity}
+use Rattle.amr_engine.specs.declared.advection.Hindrance.{Hindrance}
+use Rattle.amr_engine.specs.declared.advection.Hindrance.TheVariants.{TooFast, Content, FlowedOut}
+use Rattle.amr_engine.specs.Contents.{IsCell, IsUniform, KeepsLimits, cell_count, content_in}
+use Rattle.amr_engine.specs.Stepping.{IsStep, Tries, field}
+use Rattle.amr_engine.specs.Stopping.{Refuses, cause_told}
+use Rattle.amr_engine.specs.UniformMesh.{uniform_mesh}
+use Rattle.amr_engine.proofs.Advected.{content_refused, mesh_made, not_refused, out_after, out_refused, too_fast}
+use Rattle.amr_engine.proofs.Filled.{still_uniform}
+use Rattle.amr_engine.proofs.Fluxes.{field_at}
+use Rattle.amr_engine.proofs.Limits.{shape_is, valid_of}
+use Rattle.amr_engine.proofs.Machine.{kept_128, wide}
+use Rattle.amr_engine.proofs.Vectors.{contents_are, contents_in, length_is, whole_list}
+
+pub near_enough : (z : ℤ) → is_above (2 ^ 100) z ≡ false → Within (2 ^ 100) z
+near_enough z h = elim (cases_lt (2 ^ 100) (unsigned_abs z)) [
+  | inl lt ↦ (let t = lt-ltb (2 ^ 100) (unsigned_abs z) lt in absurd (cc))
+  | inr le ↦ le
+]
+
+module _ (d : Declared) (lists : List (Vec ℤ Global)) (outs : List ℤ) (var : ℕ) (speeds : List ℤ) (list : Vec ℤ Global) (now : List ℤ) (out : ℤ)
+    (uniform : IsUniform d (contents_in lists) outs) (limits : KeepsLimits d) (range : InRange (uniform_mesh d (contents_in lists) outs))
+    (there : var < length d.names.cells) (here : list ≡ get_or lists var list) (now_is : now ≡ list.items) (out_is : out ≡ get_or outs var out) (fast : AreThree (2 ^ 20) speeds) where
+  abbrev before : Mesh
+  before = uniform_mesh d (contents_in lists) outs
+
+  list_is : get_or (contents_in lists) var [] ≡ now
+  list_is = contents_are d lists outs var list now uniform there here now_is
+
+  out_here : get_or outs var (pos 0) ≡ out
+  out_here = get_or_default outs var (pos 0) out (let e = uniform.flowed in omega (arith, e, there)) ∙ sym out_is
+
+  content_small : (c : CellAt) → IsCell d.shape c → Within (2 ^ 40) (content_in d.shape now c)
+  unfolding uniform_mesh
+  content_small c cell = subst (λ z. Within (2 ^ 40) z) (field_at d.shape (get_or (contents_in lists) var []) c uniform.shape cell ∙ ap (λ xs. content_in d.shape xs c) list_is) (range.cells var c)
+
+  pub is_step : IsStep d.shape now speeds
+  is_step = record { row = uniform.shape; limits = shape_is d limits; whole = whole_list d lists outs var list now uniform there here now_is; small = content_small; speeds = fast }
+
+  out_small : Within (2 ^ 100) out
+  unfolding uniform_mesh
+  out_small = subst (λ z. Within (2 ^ 100) z) out_here (range.outs var)
+
+  pub out_kept : kept_128 out ≡ out
+  out_kept = wide out (2 ^ 100) out_small (omega arith)
+
+  pub kept_out_small : Within (2 ^ 100) (kept_128 out)
+  kept_out_small = subst (λ z. Within (2 ^ 100) z) (sym out_kept) out_small
+
+  valid : ValidMesh before
+  valid = valid_of d (contents_in lists) outs limits uniform range
+
+  names_are : length before.names.cells ≡ length d.names.cells
+  unfolding uniform_mesh
+  names_are = refl
+
+  same_shape : before.grid.shape ≡ d.shape
+  unfolding uniform_mesh
+  same_shape = refl
+
+  -- a list that is read again has as many items as one that was made
+  pub same_size : (again : Vec ℤ Global) (made : List ℤ) → again ≡ get_or lists var again → length made ≡ cell_count d.shape → again.len ≡ length made
+  same_size again made again_is size =
+      let whole = whole_list d lists outs var again again.items uniform there again_is refl in
+      length_is again ∙ whole ∙ sym size
+
+  -- of the list that was read it is the step of the variable
+  tried : (old next : List ℤ) (result : Result ℤ Hindrance) → Tries d.shape now speeds (kept_128 out) old next result → Tries d.shape (get_or (contents_in lists) var []) speeds (get_or outs var (pos 0)) old next result
+  tried old next result tries = subst (λ z. Tries d.shape (get_or (contents_in lists) var []) speeds z old next result) (out_kept ∙ sym out_here) (subst (λ xs. Tries d.shape xs speeds (kept_128 out) old next result) (sym list_is) tries)
+
+  -- a step that is hindered is refused
+  pub hindered : (old next : List ℤ) (hindrance : Hindrance) → Tries d.shape now speeds (kept_128 out) old next (Err hindrance) → Refuses (cause_told var speeds hindrance) before (Advect var speeds)
+  hindered old next hindrance tries = by hindrance (tried old next (Err hindrance) tries)
+    where
+      by : (hindrance : Hindrance) → Tries d.shape (get_or (contents_in lists) var []) speeds (get_or outs var (pos 0)) old next (Err hindrance) → Refuses (cause_told var speeds hindrance) before (Advect var speeds)
+      by TooFast tries = (_, too_fast before var speeds (subst (λ s. keeps_courant s (three speeds) ≡ false) (sym same_shape) tries), refl)
+      by (Content above) tries = (_, content_refused d (contents_in lists) outs var speeds uniform valid there tries.0 above tries.1, refl)
+      by (FlowedOut after) tries = (_, out_refused d (contents_in lists) outs var speeds uniform valid there tries.0 next old tries.1 after (tries.2 ∙ sym (out_after d (contents_in lists) outs var speeds uniform valid there tries.0 next old tries.1)) tries.3, refl)
+
+  module _ (old next : List ℤ) (after : ℤ) (tries : Tries d.shape now speeds (kept_128 out) old next (Ok after)) (new : Vec ℤ Global) (new_is : new.items ≡ next) where
+    abbrev known : Tries d.shape (get_or (contents_in lists) var []) speeds (get_or outs var (pos 0)) old next (Ok after)
+    known = tried old next (Ok after) tries
+
+    after_is : after ≡ (advect before var (three speeds)).outs var
+    after_is = known.2 ∙ sym (out_after d (contents_in lists) outs var speeds uniform valid there known.0 next old known.1)
+
+    pub allowed : refusal before (Advect var speeds) ≡ None
+    allowed = not_refused d (contents_in lists) outs var speeds uniform valid there known.0 next old known.1 after after_is known.3
+
+    after_kept : kept_128 after ≡ after
+    after_kept = wide after (2 ^ 100) (near_enough after known.3) (omega arith)
+
+    lists_after : contents_in (set lists var new) ≡ set (contents_in lists) var next
+    lists_after = map-set (λ v. v.items) lists var new ∙ ap (set (contents_in lists) var) new_is
+
+    pub mesh_after_step : uniform_mesh d (contents_in (set lists var new)) (set outs var (kept_128 after)) ≡ advect before var (three speeds)
+    mesh_after_step = ap₂ (uniform_mesh d) lists_after (ap (set outs var) after_kept) ∙ mesh_made d (contents_in lists) outs var speeds uniform valid there known.0 next old known.1 after after_is
+
+    pub range_after : InRange (uniform_mesh d (contents_in (set lists var new)) (set outs var (kept_128 after)))
+    unfolding uniform_mesh
+    range_after = subst InRange (sym mesh_after_step) (keeps_validity before (Advect var speeds) valid (there, fast) allowed).range
+
+    pub uniform_after : length next ≡ length now → IsUniform d (contents_in (set lists var new)) (set outs var (kept_128 after))
+    uniform_after size =
+        let inside : var < length (contents_in lists) = let e = uniform.each in omega (arith, e, there) in
+        let still = still_uniform d (contents_in lists) outs var next uniform inside (size ∙ sym (ap length list_is)) in
+        subst (λ all. IsUniform d all (set outs var (kept_128 after))) (sym lists_after) (record {
+          shape = still.shape;
+          faces = still.faces;
+          edges = still.edges;
+          each = still.each;
+          flowed = length-set outs var (kept_128 after) ∙ still.flowed;
+          whole = still.whole;
+        })

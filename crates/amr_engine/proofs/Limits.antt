@@ -1,0 +1,85 @@
+-- A uniform mesh within the limits is valid.
+use Rattle.std.proofs.Common.{◌≡◌, ◌⊎◌, ℕ, suc, ◌*◌, ◌^◌, ◌<◌, ◌≤◌, ◌==◌, Bool, true, false, ◌||◌, List, [], length, None, get_or, ℤ, pos, refl, sym, ap, ◌∙◌, arith, inl, inr, eqb-true, eq-eqb}
+use Rattle.std.proofs.Math.ListN.{get_or-eq_default}
+use Rattle.std.proofs.lemmas.Bool.{cases_Bool, or_cases, or_left, or_right}
+use Rattle.amr_num.specs.Numbers.{Within}
+use Rattle.amr_num.specs.declared.CellAt.{CellAt}
+use Rattle.mesh_model.specs.declared.Shape.{Shape}
+use Rattle.mesh_model.specs.declared.script.Declared.{Declared}
+use Rattle.mesh_model.specs.Limits.{IsShape}
+use Rattle.mesh_model.specs.Plain.{is_leaf, on_cells}
+use Rattle.mesh_model.specs.Start.{start_grid, start_mesh}
+use Rattle.mesh_model.specs.Valid.{InRange, ValidMesh}
+use Rattle.mesh_model.proofs.LeafSums.{off_leaf}
+use Rattle.mesh_model.proofs.Start.{start_mesh_valid}
+use Rattle.amr_engine.specs.Contents.{IsUniform, KeepsLimits, content_in, place}
+use Rattle.amr_engine.specs.UniformMesh.{uniform_mesh}
+
+either : (n a b : ℕ) → ((n == a) || (n == b)) ≡ true → (n ≡ a) ⊎ (n ≡ b)
+either n a b h = elim (or_cases (n == a) (n == b) h) [ inl l ↦ inl (eqb-true n a l) | inr r ↦ inr (eqb-true n b r) ]
+
+one_of_three : (n a b c : ℕ) → ((n == a) || ((n == b) || (n == c))) ≡ true → (n ≡ a) ⊎ ((n ≡ b) ⊎ (n ≡ c))
+one_of_three n a b c h = elim (or_cases (n == a) ((n == b) || (n == c)) h) [ inl l ↦ inl (eqb-true n a l) | inr r ↦ inr (either n b c r) ]
+
+pub shape_is : (d : Declared) → KeepsLimits d → IsShape d.shape
+shape_is d limits = record {
+  rx = limits.rx.0;
+  ry = limits.ry.0;
+  rz = limits.rz.0;
+  few_x = limits.rx.1;
+  few_y = limits.ry.1;
+  few_z = limits.rz.1;
+  cells = either d.shape.n 4 8 limits.cells;
+  guards = one_of_three d.shape.g 1 2 4 limits.guards;
+  min = limits.levels.0;
+  max = limits.levels.1;
+  six = limits.six;
+  both = limits.both;
+}
+
+pub limits_are : (d : Declared) → IsShape d.shape → length d.names.cells ≤ 4 → KeepsLimits d
+limits_are d shape few = record {
+  rx = (shape.rx, shape.few_x);
+  ry = (shape.ry, shape.few_y);
+  rz = (shape.rz, shape.few_z);
+  cells = elim shape.cells [ inl e ↦ or_left (d.shape.n == 4) (d.shape.n == 8) (eq-eqb d.shape.n 4 e) | inr e ↦ or_right (d.shape.n == 4) (d.shape.n == 8) (eq-eqb d.shape.n 8 e) ];
+  guards = elim shape.guards [
+    | inl e ↦ or_left (d.shape.g == 1) ((d.shape.g == 2) || (d.shape.g == 4)) (eq-eqb d.shape.g 1 e)
+    | inr more ↦ or_right (d.shape.g == 1) ((d.shape.g == 2) || (d.shape.g == 4)) (elim more [ inl e ↦ or_left (d.shape.g == 2) (d.shape.g == 4) (eq-eqb d.shape.g 2 e) | inr e ↦ or_right (d.shape.g == 2) (d.shape.g == 4) (eq-eqb d.shape.g 4 e) ])
+  ];
+  levels = (shape.min, shape.max);
+  six = shape.six;
+  both = shape.both;
+  few = few;
+}
+
+nothing_in : (s : Shape) (list : List ℤ) (c : CellAt) → list ≡ [] → on_cells (start_grid s) (content_in s list) c ≡ pos 0
+nothing_in s list c e = elim (cases_Bool (is_leaf (start_grid s) c)) [
+  | inl t ↦ rw t (ap (λ xs. get_or xs (place s c) (pos 0)) e)
+  | inr f ↦ off_leaf (start_grid s) (content_in s list) c f
+]
+
+-- the mesh is valid where its numbers are in range
+pub valid_of : (d : Declared) (contents : List (List ℤ)) (outs : List ℤ) → KeepsLimits d → IsUniform d contents outs → InRange (uniform_mesh d contents outs) → ValidMesh (uniform_mesh d contents outs)
+unfolding uniform_mesh
+valid_of d contents outs limits uniform range =
+    let start = start_mesh_valid d.shape d.names (shape_is d limits) limits.few in
+    record {
+      grid = start.grid;
+      order = start.order;
+      nodes = start.nodes;
+      numbers = record {
+        cells = λ v c off. off_leaf (start_grid d.shape) (content_in d.shape (get_or contents v [])) c off;
+        faces = λ f off. refl;
+        edges = λ e off. refl;
+      };
+      declared = record {
+        few = limits.few;
+        cells = λ v far c. nothing_in d.shape (get_or contents v []) c (get_or-eq_default contents [] (let e = uniform.each in omega (arith, e, far)));
+        outs = λ v far. get_or-eq_default outs (pos 0) (let e = uniform.flowed in omega (arith, e, far));
+        faces = λ none f. refl;
+        edges = λ none e. refl;
+      };
+      range = range;
+      marks = record { refine = start.marks.refine; derefine = start.marks.derefine };
+    }
