@@ -1,27 +1,35 @@
 -- An advect of a variable, from what was read of an engine.
-use Rattle.std.proofs.Common.{◌≡◌, ℕ, ◌+◌, ◌^◌, ◌<◌, ◌≤◌, Bool, true, false, List, [], ◌++◌, None, Some, Result, Ok, Err, length, set, get_or, take, drop, map, ℤ, pos, ◌+ℤ◌, ◌-ℤ◌, refl, sym, ap, ap₂, subst, ◌∙◌, arith, inl, inr, Vec, Global}
+use Rattle.std.proofs.Common.{◌≡◌, ◌≢◌, ℕ, ◌+◌, ◌^◌, ◌<◌, ◌≤◌, Bool, true, false, List, [], ◌++◌, Option, None, Some, Result, MatchResult, append-nil, Ok, Err, length, set, get_or, take, drop, map, ℤ, pos, ◌+ℤ◌, ◌-ℤ◌, refl, sym, ap, ap₂, subst, ◌∙◌, arith, inl, inr, Vec, Global}
 use Rattle.std.proofs.Math.ListN.{length-set}
 use Rattle.std.proofs.lemmas.Bool.{cases_Bool, cases_lt, lt-ltb}
 use Rattle.std.proofs.lemmas.List.{get_or_default, map-set}
 use Rattle.std.specs.Prelude.{unsigned_abs}
 use Rattle.amr_num.specs.Numbers.{Within}
 use Rattle.amr_num.specs.declared.CellAt.{CellAt}
-use Rattle.mesh_model.specs.declared.script.Command.TheVariants.{Advect}
+use Rattle.mesh_model.specs.declared.script.Command.{Command}
+use Rattle.mesh_model.specs.declared.script.Command.TheVariants.{Advect, FillAll, FillBox}
 use Rattle.mesh_model.specs.declared.script.Declared.{Declared}
 use Rattle.mesh_model.specs.declared.stops.Refusal.{Refusal}
 use Rattle.mesh_model.specs.Advect.{advect}
-use Rattle.mesh_model.specs.Commands.{AreThree}
+use Rattle.mesh_model.specs.Commands.{AreThree, IsBox, IsCellVariable, IsCommandOf, IsLeafNumber}
+use Rattle.mesh_model.specs.Fill.{fill_all, fill_box}
 use Rattle.mesh_model.specs.Plain.{Mesh}
 use Rattle.mesh_model.specs.RangeWalk.{is_above}
+use Rattle.mesh_model.specs.Run.{declared_in, mesh_after, text_of}
 use Rattle.mesh_model.specs.Setting.{three}
 use Rattle.mesh_model.specs.Stops.{keeps_courant, refusal}
 use Rattle.mesh_model.specs.Valid.{InRange, ValidMesh}
 use Rattle.mesh_model.proofs.RunValid.{keeps_validity}
+use Rattle.outside_io.specs.Moved.{Takes}
+use Rattle.outside_io.specs.declared.Failed.{Failed}
 use Rattle.amr_engine.specs.declared.advection.Hindrance.{Hindrance}
 use Rattle.amr_engine.specs.declared.advection.Hindrance.TheVariants.{TooFast, Content, FlowedOut}
+use Rattle.amr_engine.specs.declared.engine.Cause.{Cause}
+use Rattle.amr_engine.specs.declared.engine.Cause.TheVariants as causes
 use Rattle.amr_engine.specs.Contents.{IsCell, IsUniform, KeepsLimits, cell_count, content_in}
 use Rattle.amr_engine.specs.Stepping.{IsStep, Tries, field}
-use Rattle.amr_engine.specs.Stopping.{Refuses, cause_told}
+use Rattle.amr_engine.specs.Printing.{Prints}
+use Rattle.amr_engine.specs.Stopping.{Acts, Changes, IsCause, Refuses, Written, cause_told}
 use Rattle.amr_engine.specs.UniformMesh.{uniform_mesh}
 use Rattle.amr_engine.proofs.Advected.{content_refused, mesh_made, not_refused, out_after, out_refused, too_fast}
 use Rattle.amr_engine.proofs.Filled.{still_uniform}
@@ -130,3 +138,60 @@ module _ (d : Declared) (lists : List (Vec ℤ Global)) (outs : List ℤ) (var :
           flowed = length-set outs var (kept_128 after) ∙ still.flowed;
           whole = still.whole;
         })
+
+-- ---- fills
+
+module _ (d : Declared) (contents : List (List ℤ)) (outs : List ℤ) (uniform : IsUniform d contents outs) (limits : KeepsLimits d) (range : InRange (uniform_mesh d contents outs)) where
+  pub plain_valid : ValidMesh (uniform_mesh d contents outs)
+  plain_valid = valid_of d contents outs limits uniform range
+
+  -- the command is one of the mesh's
+  pub fits_plain : (command : Command) → IsCommandOf d command → IsCommandOf (declared_in (uniform_mesh d contents outs)) command
+  unfolding uniform_mesh
+  fits_plain command fits = fits
+
+  pub fill_all_range : (var : ℕ) (value : ℤ) → IsCellVariable d.names var → IsLeafNumber value → InRange (fill_all (uniform_mesh d contents outs) var value)
+  unfolding refusal
+  fill_all_range var value there small = (keeps_validity (uniform_mesh d contents outs) (FillAll var value) plain_valid (fits_plain (FillAll var value) (there, small)) refl).range
+
+  pub fill_box_range : (var level : ℕ) (low high : List ℕ) (value : ℤ) → IsCellVariable d.names var → IsBox d.shape level low high → IsLeafNumber value → InRange (fill_box (uniform_mesh d contents outs) var level low high value)
+  unfolding refusal
+  fill_box_range var level low high value there box small = (keeps_validity (uniform_mesh d contents outs) (FillBox var level low high value) plain_valid (fits_plain (FillBox var level low high value) (there, box, small)) refl).range
+
+-- ---- what a command does, as one fact
+
+-- a command that prints nothing and is not refused
+pub acts_quietly : (m after : Mesh) (command is : Command) (taken : Option (List ℕ)) (faults : ℕ) → command ≡ is → refusal m is ≡ None → text_of m is ≡ [] → after ≡ mesh_after m is →
+    Acts (Ok tt) m command after (record { before = taken; after = taken; faults = faults; new_faults = faults })
+acts_quietly m after command is taken faults e none quiet made =
+    subst (λ k. Acts (Ok tt) m k after (record { before = taken; after = taken; faults = faults; new_faults = faults })) (sym e) (none, made, subst (λ t. Takes taken t taken) (sym quiet) (nothing_more taken), refl)
+  where
+    nothing_more : (taken : Option (List ℕ)) → Takes taken [] taken
+    nothing_more None = tt
+    nothing_more (Some bytes) = ap Some (sym (append-nil bytes))
+
+-- an advect
+pub acts_changing : (result : Result (Unit {0}) Cause) (m after : Mesh) (command is : Command) (taken : Option (List ℕ)) (faults : ℕ) → command ≡ is → text_of m is ≡ [] → Changes result m is after →
+    Acts result m command after (record { before = taken; after = taken; faults = faults; new_faults = faults })
+acts_changing (Ok done) m after command is taken faults e quiet changes = acts_quietly m after command is taken faults e changes.0 quiet changes.1
+acts_changing (Err cause) m after command is taken faults e quiet changes =
+    subst (λ k. Acts (Err cause) m k after (record { before = taken; after = taken; faults = faults; new_faults = faults })) (sym e) (changes.1, by cause changes.0, other cause changes.0)
+  where
+    same_reason : (a b : Refusal) (o : Option Refusal) → o ≡ Some b → Some a ≡ Some b → o ≡ Some a
+    same_reason a b o h k = h ∙ sym k
+    by : (cause : Cause) → Refuses cause m is → IsCause cause m is (record { before = taken; after = taken; faults = faults; new_faults = faults })
+    by (causes.Range stop) refuses = (same_reason _ _ _ refuses.1 refuses.2, record { taken = refl; calm = refl })
+    by (causes.Courant speeds) refuses = (same_reason _ _ _ refuses.1 refuses.2, record { taken = refl; calm = refl })
+    by causes.WriteFault refuses = absurd (let odd = refuses.2 in cc)
+    by causes.OutOfMemory refuses = absurd (let odd = refuses.2 in cc)
+    other : (cause : Cause) → Refuses cause m is → cause ≢ causes.OutOfMemory
+    other (causes.Range stop) refuses h = cc
+    other (causes.Courant speeds) refuses h = cc
+    other causes.WriteFault refuses h = cc
+    other causes.OutOfMemory refuses h = let odd = refuses.2 in cc
+
+-- a command that prints
+pub acts_printing : (printed : Result (Unit {0}) Failed) (result : Result (Unit {0}) Cause) (m after : Mesh) (command is : Command) (w : Written) → command ≡ is → refusal m is ≡ None → mesh_after m is ≡ m →
+    Prints printed w.before (text_of m is) w.after w.faults w.new_faults → MatchResult printed (λ done. result ≡ Ok tt) (λ failed. result ≡ Err causes.WriteFault) → after ≡ m → Acts result m command after w
+acts_printing (Ok done) result m after command is w e none same prints told stays = subst (λ k. Acts result m k after w) (sym e) (subst (λ r. Acts r m is after w) (sym told) (none, stays ∙ sym same, prints.0, prints.1))
+acts_printing (Err failed) result m after command is w e none same prints told stays = subst (λ k. Acts result m k after w) (sym e) (subst (λ r. Acts r m is after w) (sym told) (stays, (none, prints.0, prints.1), (λ h. cc)))

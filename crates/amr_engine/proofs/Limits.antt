@@ -1,6 +1,7 @@
 -- A uniform mesh within the limits is valid.
-use Rattle.std.proofs.Common.{◌≡◌, ◌⊎◌, ℕ, suc, ◌*◌, ◌^◌, ◌<◌, ◌≤◌, ◌==◌, Bool, true, false, ◌||◌, List, [], length, None, get_or, ℤ, pos, refl, sym, ap, ◌∙◌, arith, inl, inr, eqb-true, eq-eqb}
+use Rattle.std.proofs.Common.{◌≡◌, ◌⊎◌, ℕ, suc, ◌*◌, ◌^◌, ◌<◌, ◌≤◌, ◌==◌, Bool, true, false, ◌||◌, List, [], length, None, get_or, replicate, zero, ℤ, pos, refl, sym, ap, subst, ◌∙◌, arith, inl, inr, eqb-true, eq-eqb}
 use Rattle.std.proofs.Math.ListN.{get_or-eq_default}
+use Rattle.std.proofs.lemmas.List.{get_or-replicate, length-replicate}
 use Rattle.std.proofs.lemmas.Bool.{cases_Bool, or_cases, or_left, or_right}
 use Rattle.amr_num.specs.Numbers.{Within}
 use Rattle.amr_num.specs.declared.CellAt.{CellAt}
@@ -12,8 +13,9 @@ use Rattle.mesh_model.specs.Start.{start_grid, start_mesh}
 use Rattle.mesh_model.specs.Valid.{InRange, ValidMesh}
 use Rattle.mesh_model.proofs.LeafSums.{off_leaf}
 use Rattle.mesh_model.proofs.Start.{start_mesh_valid}
-use Rattle.amr_engine.specs.Contents.{IsUniform, KeepsLimits, content_in, place}
+use Rattle.amr_engine.specs.Contents.{IsRow, IsUniform, KeepsLimits, cell_count, content_in, place}
 use Rattle.amr_engine.specs.UniformMesh.{uniform_mesh}
+use Rattle.amr_engine.proofs.Filled.{zero_mesh}
 
 either : (n a b : ℕ) → ((n == a) || (n == b)) ≡ true → (n ≡ a) ⊎ (n ≡ b)
 either n a b h = elim (or_cases (n == a) (n == b) h) [ inl l ↦ inl (eqb-true n a l) | inr r ↦ inr (eqb-true n b r) ]
@@ -83,3 +85,20 @@ valid_of d contents outs limits uniform range =
       range = range;
       marks = record { refine = start.marks.refine; derefine = start.marks.derefine };
     }
+
+-- ---- the mesh at the start
+
+-- lists of zeros
+pub zero_uniform : (d : Declared) (variables : ℕ) → IsRow d.shape → d.names.face ≡ None → d.names.edge ≡ None → variables ≡ length d.names.cells →
+    IsUniform d (replicate variables (replicate (cell_count d.shape) (pos 0))) (replicate variables (pos 0))
+zero_uniform d variables row face edge many = record {
+  shape = row;
+  faces = face;
+  edges = edge;
+  each = length-replicate variables (replicate (cell_count d.shape) (pos 0)) ∙ many;
+  flowed = length-replicate variables (pos 0) ∙ many;
+  whole = λ v h. ap length (get_or-replicate variables v (replicate (cell_count d.shape) (pos 0)) [] (let e = length-replicate variables (replicate (cell_count d.shape) (pos 0)) in omega (arith, e, h))) ∙ length-replicate (cell_count d.shape) (pos 0);
+}
+
+pub zero_range : (d : Declared) (variables : ℕ) → IsShape d.shape → length d.names.cells ≤ 4 → InRange (uniform_mesh d (replicate variables (replicate (cell_count d.shape) (pos 0))) (replicate variables (pos 0)))
+zero_range d variables shape few = subst InRange (sym (zero_mesh d variables (cell_count d.shape))) (start_mesh_valid d.shape d.names shape few).range

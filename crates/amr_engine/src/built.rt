@@ -12,6 +12,7 @@ fn is_built_command(command: Command) -> bool
     match command {
         Command::FillAll { .. } => true,
         Command::FillBox { .. } => true,
+        Command::Advect { .. } => true,
         Command::PrintVar { .. } => true,
         Command::Total { .. } => true,
         _ => false,

@@ -1,7 +1,25 @@
+use Rattle.std.proofs.Common.{◌≡◌, length, replicate, pos, sym, ap, ap₂, subst, ◌∙◌}
+use Rattle.std.proofs.lemmas.List.{length-replicate}
+use Rattle.mesh_model.specs.Valid.{InRange}
+use Rattle.amr_engine.specs.Contents.{IsUniform, cell_count}
+use Rattle.amr_engine.specs.UniformMesh.{uniform_mesh}
+use Rattle.amr_engine.proofs.Filled.{zero_mesh}
+use Rattle.amr_engine.proofs.Limits.{limits_are, zero_range, zero_uniform}
 use Rattle.amr_engine.proofs.engine.Engine.new.Goals as goal
 
 pub returns-clause-mesh : goal.returns-clause-mesh
-returns-clause-mesh c = ?
+returns-clause-mesh c = ap₂ (uniform_mesh c.args.declared) c.in_ok-contents.ensures c.in_ok-outs.ensures ∙ zero_mesh c.args.declared c.cells-variables.result (cell_count c.args.declared.shape)
 
 pub invariant_of-result : goal.invariant_of-result
-invariant_of-result c = ?
+invariant_of-result c =
+    let d = c.args.declared in
+    let zeros = replicate c.cells-variables.result (replicate (cell_count d.shape) (pos 0)) in
+    let no_outs = replicate c.cells-variables.result (pos 0) in
+    let uniform = zero_uniform d c.cells-variables.result c.requires.row c.requires.groups.0 c.requires.groups.1 c.cells-variables.ensures.count in
+    let range = zero_range d c.cells-variables.result c.requires.shape c.requires.few in
+    record {
+      uniform = subst (λ lists. IsUniform d lists c.in_ok-outs.outs.items) (sym c.in_ok-contents.ensures) (subst (IsUniform d zeros) (sym c.in_ok-outs.ensures) uniform);
+      limits = limits_are d c.requires.shape c.requires.few;
+      range = subst (λ lists. InRange (uniform_mesh d lists c.in_ok-outs.outs.items)) (sym c.in_ok-contents.ensures) (subst (λ outs. InRange (uniform_mesh d zeros outs)) (sym c.in_ok-outs.ensures) range);
+      room = ap length c.in_ok-next.ensures ∙ length-replicate (cell_count d.shape) (pos 0);
+    }

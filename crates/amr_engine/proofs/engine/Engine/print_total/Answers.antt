@@ -1,11 +1,12 @@
-use Rattle.std.proofs.Common.{List, ℕ, ℤ, pos, [], ◌∷◌, get_or, subst, sym, ap, ◌∙◌, rules, to_z, of_z}
-use Rattle.std.specs.Int.{w128}
-use Rattle.std.proofs.lemmas.Int.{to_z-of_z}
+use Rattle.std.proofs.Common.{◌≡◌, ◌^◌, List, ℕ, ℤ, pos, [], ◌∷◌, get_or, subst, sym, ap, ◌∙◌, arith}
+use Rattle.std.proofs.lemmas.List.{get_or_default}
+use Rattle.amr_num.specs.Numbers.{Within}
+use Rattle.amr_engine.proofs.Machine.{kept_128, wide}
 use Rattle.std.specs.Fmt.{signed_decimal}
 use Rattle.std.specs.Prelude.{codes}
-use mir.Val.{SFits}
 use Rattle.mesh_model.specs.Start.{start_leaves}
 use Rattle.mesh_model.specs.Texts.{text_line}
+use Rattle.mesh_model.specs.Totals as totals
 use Rattle.mesh_model.specs.Totals.{block_sum, sum_over}
 use Rattle.amr_engine.specs.Contents.{content_in}
 use Rattle.amr_engine.specs.UniformMesh.{uniform_mesh}
@@ -21,9 +22,13 @@ pub returns-clause-printed : goal.returns-clause-printed
 unfolding uniform_mesh
 returns-clause-printed g c =
     let self = c.args.self.now in
-    let text : List ℕ → ℤ → List ℕ = λ name total. text_line (codes "total" ∷ name ∷ signed_decimal total ∷ codes "out" ∷ signed_decimal (pos 0) ∷ []) in
-    let told : List ℕ → ℤ → Type 0 = λ name total. Prints c.print_total.result (g.K.Sink.taken c.args.sink.now) (text name total) (g.K.Sink.taken c.print_total.new.sink) (g.K.Sink.faults c.args.sink.now) (g.K.Sink.faults c.print_total.new.sink) in
-    let fits : SFits w128 c.total-total.result = search rules in
+    let text : List ℕ → ℤ → ℤ → List ℕ = λ name total out. text_line (codes "total" ∷ name ∷ signed_decimal total ∷ codes "out" ∷ signed_decimal out ∷ []) in
+    let told : List ℕ → ℤ → ℤ → Type 0 = λ name total out. Prints c.print_total.result (g.K.Sink.taken c.args.sink.now) (text name total out) (g.K.Sink.taken c.print_total.new.sink) (g.K.Sink.faults c.args.sink.now) (g.K.Sink.faults c.print_total.new.sink) in
     let list = contents_are self.declared self.contents.items self.outs.items c.args.var c.index.result.now c.deref.result.now self.uniform c.requires c.index.ensures c.deref.ensures.value in
-    let total = to_z-of_z w128 c.total-total.result fits ∙ c.total-total.ensures ∙ ap (λ xs. sum_over (block_sum self.declared.shape.n (content_in self.declared.shape xs)) (start_leaves self.declared.shape)) (sym list) ∙ sym (total_shown self.declared (contents_in self.contents.items) self.outs.items c.args.var self.uniform.shape) in
-    subst (told (get_or self.declared.names.cells c.args.var [])) total (subst (λ name. told name (to_z w128 (of_z w128 c.total-total.result))) (name_at self.declared.names.cells c.args.var c.cell.result.now c.cell.ensures.name) c.print_total.ensures)
+    let total = wide c.total-total.result (2 ^ 75) c.total-total.ensures.small (omega arith) ∙ c.total-total.ensures.value ∙ ap (λ xs. sum_over (block_sum self.declared.shape.n (content_in self.declared.shape xs)) (start_leaves self.declared.shape)) (sym list) ∙ sym (total_shown self.declared (contents_in self.contents.items) self.outs.items c.args.var self.uniform.shape) in
+    let out_is : get_or self.outs.items c.args.var (pos 0) ≡ c.index-2.result.now = get_or_default self.outs.items c.args.var (pos 0) c.index-2.result.now (let e = self.uniform.flowed in omega (arith, e, c.requires)) ∙ sym c.index-2.ensures in
+    let out = wide c.index-2.result.now (2 ^ 100) (subst (λ z. Within (2 ^ 100) z) out_is (self.range.outs c.args.var)) (omega arith) ∙ sym out_is in
+    let name = name_at self.declared.names.cells c.args.var c.cell.result.now c.cell.ensures.name in
+    let plain_total = totals.total (uniform_mesh self.declared (contents_in self.contents.items) self.outs.items).grid ((uniform_mesh self.declared (contents_in self.contents.items) self.outs.items).cells c.args.var) in
+    let plain_out = get_or self.outs.items c.args.var (pos 0) in
+    subst (λ n. told n plain_total plain_out) name (subst (λ t. told c.cell.result.now t plain_out) total (subst (told c.cell.result.now (kept_128 c.total-total.result)) out c.print_total.ensures))
