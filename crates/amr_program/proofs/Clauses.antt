@@ -3,15 +3,20 @@ use Rattle.std.proofs.Common.{◌≡◌, ◌≢◌, ℕ, Bool, true, false, if�
 use Rattle.mesh_model.specs.Commands.{PlainScript}
 use Rattle.amr_engine.specs.Built.{is_built}
 use Rattle.mesh_model.specs.Grammar.{Fault, script_of}
+use Rattle.mesh_model.specs.Run.{Refused}
 use Rattle.outside_io.specs.Moved.{Rose, Takes, TakesPrefix}
+use Rattle.amr_engine.specs.Stopping.{Written}
+use Rattle.mesh_model.specs.declared.stops.Refusal as stops
+use Rattle.mesh_model.specs.declared.stops.Refusal.TheVariants as why
+use Rattle.mesh_model.specs.VariableNames.{VariableNames}
 use Rattle.amr_program.specs.declared.status.Status.{Status}
 use Rattle.amr_program.specs.declared.status.Status.TheVariants as status
 use Rattle.amr_program.specs.declared.program.TheConstants.{LIMIT}
 use Rattle.amr_program.specs.declared.refusal.Refusal.{Refusal}
 use Rattle.amr_program.specs.declared.refusal.Refusal.TheVariants as refusals
-use Rattle.amr_program.specs.Answer.{Answer, IsAccepted, IsAnswer, IsRefused, MayPrint, TookBeforeMemory, TookPart, admitted, answer_of, first_texts, plain_answer, read_in, script_in}
+use Rattle.amr_program.specs.Answer.{Answer, IsAccepted, IsAnswer, IsRefused, IsStoppedWith, MayPrint, TookBeforeMemory, TookPart, admitted, answer_of, first_texts, ending, plain_answer, read_in, script_in, status_of, stop_in}
 use Rattle.amr_program.specs.Lines.{memory_line, read_line, words_line}
-use Rattle.amr_program.specs.Outcome.{Answered, Came, ByMemory, ByRead, ByScript, ByWords, Ended, Failed, Outcome, Source, Starved, Written, Wrote, WrotePart}
+use Rattle.amr_program.specs.Outcome.{Answered, Came, ByMemory, ByRead, ByScript, ByWords, Ended, Failed, Outcome, Source, Starved, Wrote, WrotePart}
 
 -- ---- facts of a value that may be there
 
@@ -30,30 +35,86 @@ no_words text (word ∷ words) e = cc
 
 -- ---- statuses
 
--- an answer is Done or Script
-answer_status : (read : Result PlainScript Refusal) → ((answer_of read).status ≡ status.Done) ⊎ ((answer_of read).status ≡ status.Script)
-answer_status (Ok s) = inl refl
-answer_status (Err f) = inr refl
+-- the statuses that a script's answer has
+of_script : Status → Bool
+of_script status.Done = true
+of_script status.Words = false
+of_script status.Script = true
+of_script status.Stopped = true
+of_script status.Level = true
+of_script status.ReadFault = false
+of_script status.WriteFault = false
+of_script status.OutOfMemory = false
+
+stops_with : (why : stops.Refusal) → (of_script (status_of why) ≡ true) × (status_of why ≢ status.Done) × (status_of why ≢ status.Script)
+unfolding of_script
+stops_with (why.Range stop) = (refl, (λ e. cc), (λ e. cc))
+stops_with (why.Courant speeds) = (refl, (λ e. cc), (λ e. cc))
+stops_with (why.Level stop) = (refl, (λ e. cc), (λ e. cc))
+stops_with (why.Place spot) = (refl, (λ e. cc), (λ e. cc))
+stops_with (why.PlaceBlock at) = (refl, (λ e. cc), (λ e. cc))
+stops_with (why.Blocks count) = (refl, (λ e. cc), (λ e. cc))
+
+ends_with : (names : VariableNames) (o : Option Refused) → (of_script (ending names o).status ≡ true) × ((ending names o).status ≢ status.Script)
+unfolding of_script
+ends_with names None = (refl, (λ e. cc))
+ends_with names (Some refused) = let s = stops_with refused.why in (s.0, s.2)
+
+answer_status : (read : Result PlainScript Refusal) → of_script (answer_of read).status ≡ true
+unfolding of_script
+answer_status (Ok s) = (ends_with s.declared.names (stop_in s)).0
+answer_status (Err f) = refl
+
+-- no other status is a script's answer
+not_answer : (read : Result PlainScript Refusal) (result other : Status) → result ≡ (answer_of read).status → result ≡ other → of_script other ≡ false → ⊥
+not_answer read result other is e never =
+    let ever : of_script other ≡ true = subst (λ s. of_script s ≡ true) (sym is ∙ e) (answer_status read) in
+    let odd : true ≡ false = sym ever ∙ never in cc
+
+words_no : of_script status.Words ≡ false
+unfolding of_script
+words_no = refl
+
+read_no : of_script status.ReadFault ≡ false
+unfolding of_script
+read_no = refl
+
+write_no : of_script status.WriteFault ≡ false
+unfolding of_script
+write_no = refl
+
+memory_no : of_script status.OutOfMemory ≡ false
+unfolding of_script
+memory_no = refl
 
 -- the script by whether it is built
 abbrev admitted_by : Bool → PlainScript → Result PlainScript Refusal
 admitted_by built s = if built then Ok s else Err refusals.NotBuilt
 
 refused_by : (built : Bool) (s : PlainScript) → (answer_of (admitted_by built s)).status ≡ status.Script → built ≡ false
-refused_by true s e = (let odd : status.Done ≡ status.Script = e in cc)
+refused_by true s e = absurd ((ends_with s.declared.names (stop_in s)).1 e)
 refused_by false s e = refl
 
 refused_read : (read : Result PlainScript Fault) → (answer_of (admitted read)).status ≡ status.Script → IsRefused read
 refused_read (Ok s) e = refused_by (is_built s 1 1) s e
 refused_read (Err f) e = tt
 
-accepted_by : (built : Bool) (s : PlainScript) → built ≡ true → (answer_of (admitted_by built s)).status ≡ status.Done
-accepted_by true s h = refl
-accepted_by false s h = cc
+accepted_by : (built : Bool) (s : PlainScript) → built ≡ true → stop_in s ≡ None → (answer_of (admitted_by built s)).status ≡ status.Done
+accepted_by true s h none = ap (λ o. (ending s.declared.names o).status) none
+accepted_by false s h none = cc
 
 accepted_read : (read : Result PlainScript Fault) → IsAccepted read → (answer_of (admitted read)).status ≡ status.Done
-accepted_read (Ok s) h = accepted_by (is_built s 1 1) s h
+accepted_read (Ok s) h = accepted_by (is_built s 1 1) s h.0 h.1
 accepted_read (Err f) h = absurd h
+
+-- an answer with the status of a refused command tells of one
+stopped_by : (names : VariableNames) (o whole : Option Refused) (kind : Status) → whole ≡ o → (ending names o).status ≡ kind → kind ≢ status.Done → (refused : Refused) × (whole ≡ Some refused) × (status_of refused.why ≡ kind)
+stopped_by names None whole kind e is other = absurd (other (sym is))
+stopped_by names (Some refused) whole kind e is other = (refused, e, is)
+
+stopped_read : (read : Result PlainScript Refusal) (kind : Status) → (answer_of read).status ≡ kind → kind ≢ status.Done → kind ≢ status.Script → IsStoppedWith kind read
+stopped_read (Ok s) kind is not_done not_script = stopped_by s.declared.names (stop_in s) (stop_in s) kind refl is not_done
+stopped_read (Err refusal) kind is not_done not_script = absurd (not_script (sym is))
 
 words_answer : (words : List (List ℕ)) (all : List ℕ) (result : Status) (w : Written) → words ≢ [] → result ≡ status.Words → Takes w.before words_line w.after → IsAnswer (plain_answer words all) result w.before w.after
 words_answer [] all result w some e takes = absurd (some refl)
@@ -84,7 +145,7 @@ module _ (words : List (List ℕ)) (result : Status) (s : Source) (w : Written) 
   words_refused (inr (inl o)) is = elim o.ended [ inl e ↦ absurd (cc e.0) | inr e ↦ absurd (cc e.0) ]
   words_refused (inr (inr (inl o))) is = elim o.ended [ inl e ↦ absurd (cc e.0) | inr e ↦ absurd (cc e.0) ]
   words_refused (inr (inr (inr o))) is = elim o.came [
-    | inl a ↦ elim (answer_status (admitted (script_of None o.bytes))) [ inl e ↦ absurd (cc (a.status_is, e)) | inr e ↦ absurd (cc (a.status_is, e)) ]
+    | inl a ↦ absurd (not_answer (admitted (script_of None o.bytes)) result _ a.status_is is words_no)
     | inr other ↦ elim other [ inl a ↦ absurd (cc a.status_is) | inr a ↦ absurd (cc a.status_is) ]
   ]
 
@@ -103,12 +164,29 @@ module _ (words : List (List ℕ)) (result : Status) (s : Source) (w : Written) 
     | inr other ↦ elim other [ inl a ↦ absurd (cc a.status_is) | inr a ↦ absurd (cc a.status_is) ]
   ]
 
+  -- a command was refused with this status
+  refused_with : (kind : Status) → kind ≢ status.Done → kind ≢ status.Script → kind ≢ status.Words → kind ≢ status.ReadFault → kind ≢ status.WriteFault → kind ≢ status.OutOfMemory →
+      Outcome words result s w → result ≡ kind → (words ≡ []) × IfSome s.before (λ bytes. IsStoppedWith kind (script_in bytes))
+  refused_with kind not_done not_script not_words not_read not_write not_memory (inl o) is = elim o.ended [ inl e ↦ absurd (not_words (sym is ∙ e.0)) | inr e ↦ absurd (not_write (sym is ∙ e.0)) ]
+  refused_with kind not_done not_script not_words not_read not_write not_memory (inr (inl o)) is = elim o.ended [ inl e ↦ absurd (not_read (sym is ∙ e.0)) | inr e ↦ absurd (not_write (sym is ∙ e.0)) ]
+  refused_with kind not_done not_script not_words not_read not_write not_memory (inr (inr (inl o))) is = elim o.ended [ inl e ↦ absurd (not_memory (sym is ∙ e.0)) | inr e ↦ absurd (not_write (sym is ∙ e.0)) ]
+  refused_with kind not_done not_script not_words not_read not_write not_memory (inr (inr (inr o))) is = elim o.came [
+    | inl a ↦ (o.none, carried s.before _ _ o.left (λ all h. subst (λ b. IsStoppedWith kind (admitted (script_of None b))) h.0 (stopped_read (admitted (script_of None o.bytes)) kind (sym a.status_is ∙ is) not_done not_script)))
+    | inr other ↦ elim other [ inl a ↦ absurd (not_memory (sym is ∙ a.status_is)) | inr a ↦ absurd (not_write (sym is ∙ a.status_is)) ]
+  ]
+
+  pub stopped : Outcome words result s w → result ≡ status.Stopped → (words ≡ []) × IfSome s.before (λ bytes. IsStoppedWith status.Stopped (script_in bytes))
+  stopped = refused_with status.Stopped (λ e. cc) (λ e. cc) (λ e. cc) (λ e. cc) (λ e. cc) (λ e. cc)
+
+  pub level : Outcome words result s w → result ≡ status.Level → (words ≡ []) × IfSome s.before (λ bytes. IsStoppedWith status.Level (script_in bytes))
+  level = refused_with status.Level (λ e. cc) (λ e. cc) (λ e. cc) (λ e. cc) (λ e. cc) (λ e. cc)
+
   pub read_fault : Outcome words result s w → result ≡ status.ReadFault → Rose s.faults s.new_faults
   read_fault (inl o) is = elim o.ended [ inl e ↦ absurd (cc e.0) | inr e ↦ absurd (cc e.0) ]
   read_fault (inr (inl o)) is = o.rose
   read_fault (inr (inr (inl o))) is = elim o.ended [ inl e ↦ absurd (cc e.0) | inr e ↦ absurd (cc e.0) ]
   read_fault (inr (inr (inr o))) is = elim o.came [
-    | inl a ↦ elim (answer_status (admitted (script_of None o.bytes))) [ inl e ↦ absurd (cc (a.status_is, e)) | inr e ↦ absurd (cc (a.status_is, e)) ]
+    | inl a ↦ absurd (not_answer (admitted (script_of None o.bytes)) result _ a.status_is is read_no)
     | inr other ↦ elim other [ inl a ↦ absurd (cc a.status_is) | inr a ↦ absurd (cc a.status_is) ]
   ]
 
@@ -123,7 +201,7 @@ module _ (words : List (List ℕ)) (result : Status) (s : Source) (w : Written) 
   write_fault (inr (inl o)) is = elim o.ended [ inl e ↦ absurd (cc e.0) | inr e ↦ e.1.rose ]
   write_fault (inr (inr (inl o))) is = elim o.ended [ inl e ↦ absurd (cc e.0) | inr e ↦ e.1.rose ]
   write_fault (inr (inr (inr o))) is = elim o.came [
-    | inl a ↦ elim (answer_status (admitted (script_of None o.bytes))) [ inl e ↦ absurd (cc (a.status_is, e)) | inr e ↦ absurd (cc (a.status_is, e)) ]
+    | inl a ↦ absurd (not_answer (admitted (script_of None o.bytes)) result _ a.status_is is write_no)
     | inr other ↦ elim other [ inl a ↦ absurd (cc a.status_is) | inr a ↦ a.wrote.rose ]
   ]
 
@@ -174,7 +252,7 @@ module _ (words : List (List ℕ)) (result : Status) (s : Source) (w : Written) 
       no_texts (Ok script) = refl
       no_texts (Err fault) = refl
   part (inr (inr (inr o))) is = elim o.came [
-    | inl a ↦ elim (answer_status (admitted (script_of None o.bytes))) [ inl e ↦ absurd (cc (a.status_is, e)) | inr e ↦ absurd (cc (a.status_is, e)) ]
+    | inl a ↦ absurd (not_answer (admitted (script_of None o.bytes)) result _ a.status_is is write_no)
     | inr other ↦ elim other [
       | inl a ↦ absurd (cc a.status_is)
       | inr a ↦ carried s.before _ _ o.left (λ all h. (a.text, subst (λ ws. MayPrint ws all a.text) (sym o.none) (may a all h.0), a.wrote.takes))
@@ -199,7 +277,7 @@ module _ (words : List (List ℕ)) (result : Status) (s : Source) (w : Written) 
       no_texts (Ok script) = refl
       no_texts (Err fault) = refl
   memory (inr (inr (inr o))) is = elim o.came [
-    | inl a ↦ elim (answer_status (admitted (script_of None o.bytes))) [ inl e ↦ absurd (cc (a.status_is, e)) | inr e ↦ absurd (cc (a.status_is, e)) ]
+    | inl a ↦ absurd (not_answer (admitted (script_of None o.bytes)) result _ a.status_is is memory_no)
     | inr other ↦ elim other [
       | inl a ↦ carried s.before _ _ o.left (λ all h. (a.commands, subst (λ b. Takes w.before (first_texts (admitted (script_of None b)) a.commands ++ memory_line) w.after) h.0 a.wrote.takes))
       | inr a ↦ absurd (cc a.status_is)

@@ -2,70 +2,164 @@
 use Rattle.std.specs.List.{list_all}
 use Rattle.std.proofs.lemmas.List.Elements.{All-cons, All-nil}
 use Rattle.std.proofs.Common.{◌≡◌, ◌≢◌, ℕ, ◌≤◌, ◌==◌, eqb-true, is_none, Bool, true, false, ◌&&◌, if◌then◌else◌, All, zero, suc, ◌+◌, ◌<◌, ◌++◌, ◌⊎◌, List, [], ◌∷◌, Option, Some, None, Result, Ok, Err, IfSome, length, get_or, take, drop, inl, inr, refl, sym, ap, subst, ◌∙◌, arith, append_assoc, append-nil}
+use Rattle.std.proofs.Math.Seq.{take-suc}
+use Rattle.amr_num.specs.declared.Axis.{Axis}
+use Rattle.amr_num.specs.declared.Axis.TheVariants.{X, Y, Z}
+use Rattle.amr_num.specs.declared.SideKind.{SideKind}
+use Rattle.amr_num.specs.declared.SideKind.TheVariants.{Periodic}
+use Rattle.script_lang.proofs.Scripts.{script_fits, script_in_limits}
+use Rattle.mesh_model.specs.declared.script.Command.{Command}
+use Rattle.mesh_model.specs.declared.stops.Refusal as stops
+use Rattle.mesh_model.specs.declared.stops.Refusal.TheVariants as why
+use Rattle.mesh_model.specs.Coordinates.{is_periodic_kind, side_index, side_kind}
+use Rattle.mesh_model.specs.Grammar.{script_of}
+use Rattle.mesh_model.specs.Limits.{IsShape}
+use Rattle.mesh_model.specs.StopTexts.{stop_line}
+use Rattle.mesh_model.specs.Stops.{refusal}
+use Rattle.mesh_model.specs.Valid.{ValidMesh}
+use Rattle.mesh_model.proofs.Start.{start_mesh_valid}
+use Rattle.amr_program.specs.declared.program.TheConstants.{LIMIT}
 use Rattle.mesh_model.specs.declared.script.Declared.{Declared}
 use Rattle.mesh_model.specs.declared.script.Line.{Line}
 use Rattle.amr_engine.specs.declared.engine.Cause.{Cause}
 use Rattle.amr_engine.specs.declared.engine.Cause.TheVariants as causes
-use Rattle.amr_engine.specs.Stopping.{IsCause}
+use Rattle.amr_engine.specs.Stopping.{IsCause, Written}
 use Rattle.amr_engine.proofs.Printed.{part_within}
 use Rattle.amr_engine.specs.Contents.{IsRow}
 use Rattle.amr_engine.specs.Built.{IsBuiltLine, is_built, is_built_mesh, is_built_command}
-use Rattle.mesh_model.specs.Commands.{InLimits, PlainScript}
+use Rattle.mesh_model.specs.Commands.{InLimits, IsLineOf, PlainScript}
 use Rattle.mesh_model.specs.Grammar.{Fault}
 use Rattle.mesh_model.specs.Plain.{Mesh}
-use Rattle.mesh_model.proofs.RunTotals.{runs_keep_totals}
 use Rattle.outside_io.specs.Moved.{Rose, Takes, TakesPrefix}
 use Rattle.outside_io.proofs.Moving.{takes_more}
 use Rattle.amr_program.specs.declared.status.Status.{Status}
 use Rattle.amr_program.specs.declared.status.Status.TheVariants as status
 use Rattle.amr_program.specs.declared.refusal.Refusal.{Refusal}
 use Rattle.amr_program.specs.declared.refusal.Refusal.TheVariants as refusals
-use Rattle.amr_program.specs.Answer.{TotalsAreKept, admitted, first_texts, read_in, script_in}
+use Rattle.amr_program.specs.Answer.{AlongRun, admitted, answer_of, done_in, ending, first_texts, read_in, script_in, status_of, stop_in}
 use Rattle.amr_program.specs.Lines.{memory_line, refusal_line}
-use Rattle.amr_program.specs.Outcome.{Came, Ended, RunStops, Written}
-use Rattle.mesh_model.specs.Run.{first_mesh, mesh_after, mesh_of, text_of, texts}
+use Rattle.amr_program.specs.Outcome.{Came, Ended, RunStops, Wrote, WrotePart}
+use Rattle.mesh_model.specs.Run.{AtEachCommand, declared_in, done, first_mesh, mesh_after, mesh_of, stop, text_of, texts}
 
--- the mesh after one more command
-pub mesh_next : (m : Mesh) (lines : List Line) (i : ℕ) (d : Line) → i < length lines → mesh_of m (take (suc i) lines) ≡ mesh_after (mesh_of m (take i lines)) (get_or lines i d).command
-mesh_next m [] i d h = absurd (omega arith)
-mesh_next m (line ∷ lines) zero d h = refl
-mesh_next m (line ∷ lines) (suc i) d h = mesh_next (mesh_after m line.command) lines i d (omega arith)
+-- ---- commands after others
+
+texts_append : (m : Mesh) (xs ys : List Line) → texts m (xs ++ ys) ≡ texts m xs ++ texts (mesh_of m xs) ys
+texts_append m [] ys = refl
+texts_append m (line ∷ xs) ys = ap (λ t. text_of m line.command ++ t) (texts_append (mesh_after m line.command) xs ys) ∙ sym (append_assoc (text_of m line.command) (texts (mesh_after m line.command) xs) (texts (mesh_of (mesh_after m line.command) xs) ys))
+
+mesh_append : (m : Mesh) (xs ys : List Line) → mesh_of m (xs ++ ys) ≡ mesh_of (mesh_of m xs) ys
+mesh_append m [] ys = refl
+mesh_append m (line ∷ xs) ys = mesh_append (mesh_after m line.command) xs ys
+
+-- a run that has done the first i commands: the mesh is the one after them, and it goes on with the others
+pub record Progress (m : Mesh) (lines : List Line) (i : ℕ) (now : Mesh) : Type 0 where
+  pub mesh : now ≡ mesh_of m (take i lines)
+  pub done_so_far : done m lines ≡ take i lines ++ done now (drop i lines)
+  pub stops_later : stop m lines ≡ stop now (drop i lines)
+
+pub begun : (m : Mesh) (lines : List Line) → Progress m lines 0 m
+begun m lines = record { mesh = refl; done_so_far = refl; stops_later = refl }
+
+-- what a refusal, or none, makes of the commands that are left
+done_by : (now : Mesh) (line : Line) (rest : List Line) → refusal now line.command ≡ None → (done now (line ∷ rest) ≡ line ∷ done (mesh_after now line.command) rest) × (stop now (line ∷ rest) ≡ stop (mesh_after now line.command) rest)
+done_by now line rest none = (
+  ap (λ o. elim o [ | None ↦ line ∷ done (mesh_after now line.command) rest | Some w ↦ [] ]) none,
+  ap (λ o. elim o [ | None ↦ stop (mesh_after now line.command) rest | Some w ↦ Some (record { line = line.number; why = w }) ]) none,
+)
+
+stopped_by : (now : Mesh) (line : Line) (rest : List Line) (reason : stops.Refusal) → refusal now line.command ≡ Some reason → (done now (line ∷ rest) ≡ []) × (stop now (line ∷ rest) ≡ Some (record { line = line.number; why = reason }))
+stopped_by now line rest reason some = (
+  ap (λ o. elim o [ | None ↦ line ∷ done (mesh_after now line.command) rest | Some w ↦ [] ]) some,
+  ap (λ o. elim o [ | None ↦ stop (mesh_after now line.command) rest | Some w ↦ Some (record { line = line.number; why = w }) ]) some,
+)
+
+left_from : (lines : List Line) (i : ℕ) (d : Line) → i < length lines → drop i lines ≡ get_or lines i d ∷ drop (i + 1) lines
+left_from [] i d h = absurd (omega arith)
+left_from (line ∷ lines) zero d h = refl
+left_from (line ∷ lines) (suc i) d h = let next : suc i + 1 ≡ suc (i + 1) = omega arith in left_from lines i d (omega arith) ∙ ap (λ k. get_or lines i d ∷ drop k (line ∷ lines)) (sym next)
+
+-- one more command is done
+pub goes_on : (m now after : Mesh) (lines : List Line) (i : ℕ) (d : Line) → i < length lines → Progress m lines i now → refusal now (get_or lines i d).command ≡ None → after ≡ mesh_after now (get_or lines i d).command → Progress m lines (i + 1) after
+goes_on m now after lines i d h so_far none made =
+    let line = get_or lines i d in
+    let rest = drop (i + 1) lines in
+    let more : take (i + 1) lines ≡ take i lines ++ line ∷ [] = take-suc_of lines i d h in
+    let here = done_by now line rest none in
+    record {
+      mesh = made ∙ ap (λ x. mesh_after x line.command) so_far.mesh ∙ sym (mesh_append m (take i lines) (line ∷ [])) ∙ ap (mesh_of m) (sym more);
+      done_so_far = so_far.done_so_far ∙ ap (λ ls. take i lines ++ done now ls) (left_from lines i d h) ∙ ap (λ ls. take i lines ++ ls) (here.0 ∙ ap (λ x. line ∷ done x rest) (sym made)) ∙ sym (append_assoc (take i lines) (line ∷ []) (done after rest)) ∙ ap (λ ls. ls ++ done after rest) (sym more);
+      stops_later = so_far.stops_later ∙ ap (stop now) (left_from lines i d h) ∙ here.1 ∙ ap (λ x. stop x rest) (sym made);
+    }
+  where
+    take-suc_of : (lines : List Line) (i : ℕ) (d : Line) → i < length lines → take (i + 1) lines ≡ take i lines ++ get_or lines i d ∷ []
+    take-suc_of lines i d h = let e : i + 1 ≡ suc i = omega arith in ap (λ k. take k lines) e ∙ take-suc lines i d h
+
+-- all commands are done
+pub all_done : (m now : Mesh) (lines : List Line) (i : ℕ) → length lines ≤ i → Progress m lines i now → (done m lines ≡ take i lines) × (stop m lines ≡ None)
+all_done m now lines i far so_far =
+    let none : drop i lines ≡ [] = nothing_left lines i far in
+    (so_far.done_so_far ∙ ap (λ ls. take i lines ++ done now ls) none ∙ append-nil (take i lines), so_far.stops_later ∙ ap (stop now) none)
+  where
+    nothing_left : (lines : List Line) (i : ℕ) → length lines ≤ i → drop i lines ≡ []
+    nothing_left [] zero h = refl
+    nothing_left [] (suc i) h = refl
+    nothing_left (line ∷ lines) zero h = absurd (omega arith)
+    nothing_left (line ∷ lines) (suc i) h = nothing_left lines i (omega arith)
 
 -- the texts with one more command
-pub texts_next : (m : Mesh) (lines : List Line) (i : ℕ) (d : Line) → i < length lines → texts m (take (suc i) lines) ≡ texts m (take i lines) ++ text_of (mesh_of m (take i lines)) (get_or lines i d).command
-texts_next m [] i d h = absurd (omega arith)
-texts_next m (line ∷ lines) zero d h = append-nil (text_of m line.command)
-texts_next m (line ∷ lines) (suc i) d h = ap (λ t. text_of m line.command ++ t) (texts_next (mesh_after m line.command) lines i d (omega arith)) ∙ sym (append_assoc (text_of m line.command) (texts (mesh_after m line.command) (take i lines)) (text_of (mesh_of (mesh_after m line.command) (take i lines)) (get_or lines i d).command))
+pub more_taken : (m now : Mesh) (lines : List Line) (i : ℕ) (d : Line) (a b c : Option (List ℕ)) → i < length lines → Progress m lines i now → Takes a (texts m (take i lines)) b → Takes b (text_of now (get_or lines i d).command) c → Takes a (texts m (take (i + 1) lines)) c
+more_taken m now lines i d a b c h so_far before here =
+    let line = get_or lines i d in
+    let next : i + 1 ≡ suc i = omega arith in
+    let texts_next : texts m (take i lines) ++ text_of now line.command ≡ texts m (take (i + 1) lines) =
+        ap (λ x. texts m (take i lines) ++ text_of x line.command) so_far.mesh
+        ∙ ap (λ t. texts m (take i lines) ++ t) (sym (append-nil (text_of (mesh_of m (take i lines)) line.command)))
+        ∙ sym (texts_append m (take i lines) (line ∷ []))
+        ∙ ap (texts m) (sym (ap (λ k. take k lines) next ∙ take-suc lines i d h)) in
+    subst (λ t. Takes a t c) texts_next (takes_more a b c (texts m (take i lines)) (text_of now line.command) before here)
 
--- the texts of all commands, from one on
-pub texts_apart : (m : Mesh) (lines : List Line) (i : ℕ) → texts m lines ≡ texts m (take i lines) ++ texts (mesh_of m (take i lines)) (drop i lines)
-texts_apart m lines zero = refl
-texts_apart m [] (suc i) = refl
-texts_apart m (line ∷ lines) (suc i) = ap (λ t. text_of m line.command ++ t) (texts_apart (mesh_after m line.command) lines i) ∙ sym (append_assoc (text_of m line.command) _ _)
-
--- one more command was done
-pub run_on : (m now after : Mesh) (lines : List Line) (i : ℕ) (d : Line) (a b c : Option (List ℕ)) → i < length lines → now ≡ mesh_of m (take i lines) → Takes a (texts m (take i lines)) b → after ≡ mesh_after now (get_or lines i d).command → Takes b (text_of now (get_or lines i d).command) c →
-    (after ≡ mesh_of m (take (i + 1) lines)) × Takes a (texts m (take (i + 1) lines)) c
-run_on m now after lines i d a b c h at before made wrote =
-    let next : suc i ≡ i + 1 = omega arith in
-    let command = (get_or lines i d).command in
-    let here : Takes b (text_of (mesh_of m (take i lines)) command) c = subst (λ x. Takes b (text_of x command) c) at wrote in (
-      made ∙ ap (λ x. mesh_after x command) at ∙ sym (mesh_next m lines i d h) ∙ ap (λ k. mesh_of m (take k lines)) next,
-      subst (λ t. Takes a t c) (sym (texts_next m lines i d h) ∙ ap (λ k. texts m (take k lines)) next) (takes_more a b c (texts m (take i lines)) (text_of (mesh_of m (take i lines)) command) before here),
+-- the command at which a run stands is refused
+stopped_here : (m now : Mesh) (lines : List Line) (i number : ℕ) (d : Line) (a b c : Option (List ℕ)) (f g h : ℕ) → i < length lines → number ≡ (get_or lines i d).number → Progress m lines i now → Takes a (texts m (take i lines)) b → g ≡ f →
+    (reason : stops.Refusal) → refusal now (get_or lines i d).command ≡ Some reason → c ≡ b → h ≡ g →
+    (stop m lines ≡ Some (record { line = number; why = reason })) × Wrote (texts m (done m lines)) (record { before = a; after = c; faults = f; new_faults = h })
+stopped_here m now lines i number d a b c f g h l number_is so_far before calm reason some same quiet =
+    let line = get_or lines i d in
+    let here = stopped_by now line (drop (i + 1) lines) reason some in
+    let all : done m lines ≡ take i lines = so_far.done_so_far ∙ ap (λ ls. take i lines ++ done now ls) (left_from lines i d l) ∙ ap (λ ls. take i lines ++ ls) here.0 ∙ append-nil (take i lines) in
+    (
+      so_far.stops_later ∙ ap (stop now) (left_from lines i d l) ∙ here.1 ∙ ap (λ n. Some (record { line = n; why = reason })) (sym number_is),
+      record { takes = subst (λ x. Takes a (texts m (done m lines)) x) (sym same) (subst (λ t. Takes a t b) (ap (texts m) (sym all)) before); calm = quiet ∙ calm },
     )
 
 -- a command was stopped
-pub run_stops : (cause : Cause) (m now : Mesh) (lines : List Line) (i : ℕ) (d : Line) (a b c : Option (List ℕ)) (f g h : ℕ) → i < length lines → now ≡ mesh_of m (take i lines) → Takes a (texts m (take i lines)) b → g ≡ f → IsCause cause b (text_of now (get_or lines i d).command) c g h →
-    RunStops cause m lines (record { before = a; after = c; faults = f; new_faults = h })
-run_stops causes.WriteFault m now lines i d a b c f g h l at before calm told =
-    let command = (get_or lines i d).command in
-    let here : TakesPrefix b (text_of (mesh_of m (take i lines)) command) c = subst (λ x. TakesPrefix b (text_of x command) c) at told.0 in
-    let whole = texts_apart m lines (suc i) ∙ ap (λ t. t ++ texts (mesh_of m (take (suc i) lines)) (drop (suc i) lines)) (texts_next m lines i d l) in
+pub run_stops : (cause : Cause) (m now : Mesh) (lines : List Line) (i number : ℕ) (d : Line) (a b c : Option (List ℕ)) (f g h : ℕ) → i < length lines → number ≡ (get_or lines i d).number → Progress m lines i now → Takes a (texts m (take i lines)) b → g ≡ f →
+    IsCause cause now (get_or lines i d).command (record { before = b; after = c; faults = g; new_faults = h }) →
+    RunStops cause number m lines (record { before = a; after = c; faults = f; new_faults = h })
+run_stops (causes.Range range) m now lines i number d a b c f g h l number_is so_far before calm told = stopped_here m now lines i number d a b c f g h l number_is so_far before calm (why.Range range) told.0 told.1.taken told.1.calm
+run_stops (causes.Courant speeds) m now lines i number d a b c f g h l number_is so_far before calm told = stopped_here m now lines i number d a b c f g h l number_is so_far before calm (why.Courant speeds) told.0 told.1.taken told.1.calm
+run_stops causes.WriteFault m now lines i number d a b c f g h l number_is so_far before calm told =
+    let line = get_or lines i d in
+    let rest = drop (i + 1) lines in
+    let after = mesh_after now line.command in
+    let all : done m lines ≡ take i lines ++ line ∷ done after rest = so_far.done_so_far ∙ ap (λ ls. take i lines ++ done now ls) (left_from lines i d l) ∙ ap (λ ls. take i lines ++ ls) (done_by now line rest told.0).0 in
+    let whole : texts m (done m lines) ≡ (texts m (take i lines) ++ text_of now line.command) ++ texts after (done after rest) =
+        ap (texts m) all ∙ texts_append m (take i lines) (line ∷ done after rest) ∙ ap (λ x. texts m (take i lines) ++ texts x (line ∷ done after rest)) (sym so_far.mesh) ∙ sym (append_assoc (texts m (take i lines)) (text_of now line.command) (texts after (done after rest))) in
     record {
-      takes = part_within a b c (texts m (take i lines)) (text_of (mesh_of m (take i lines)) command) (texts (mesh_of m (take (suc i) lines)) (drop (suc i) lines)) (texts m lines) before here whole;
-      rose = subst (λ x. Rose x h) calm told.1;
+      takes = part_within a b c (texts m (take i lines)) (text_of now line.command) (texts after (done after rest)) (texts m (done m lines)) before told.1 whole;
+      rose = subst (λ x. Rose x h) calm told.2;
     }
-run_stops causes.OutOfMemory m now lines i d a b c f g h l at before calm told = (i, record { takes = subst (λ x. Takes a (texts m (take i lines)) x) (sym told.0) before; calm = told.1 ∙ calm })
+run_stops causes.OutOfMemory m now lines i number d a b c f g h l number_is so_far before calm told =
+    let firsts : take i (done m lines) ≡ take i lines = ap (take i) so_far.done_so_far ∙ take_first (take i lines) (done now (drop i lines)) i (taken_length lines i (omega (arith, l))) in
+    (i, record { takes = subst (λ t. Takes a t c) (ap (texts m) (sym firsts)) (subst (λ x. Takes a (texts m (take i lines)) x) (sym told.taken) before); calm = told.calm ∙ calm })
+  where
+    taken_length : (lines : List Line) (i : ℕ) → i ≤ length lines → length (take i lines) ≡ i
+    taken_length lines zero k = refl
+    taken_length [] (suc i) k = absurd (omega arith)
+    taken_length (line ∷ lines) (suc i) k = ap suc (taken_length lines i (omega arith))
+    take_first : (xs ys : List Line) (n : ℕ) → length xs ≡ n → take n (xs ++ ys) ≡ xs
+    take_first [] ys n e = subst (λ k. take k ys ≡ []) e refl
+    take_first (x ∷ xs) ys zero e = absurd (omega (arith, e))
+    take_first (x ∷ xs) ys (suc n) e = ap (λ ls. x ∷ ls) (take_first xs ys n (omega (arith, e)))
 
 -- ---- what came of a script
 
@@ -100,6 +194,59 @@ refused_came refusal result w (inr e) = inr (inr (record { status_is = e.0; text
 -- the line says why
 pub refused_said : (refusal : Refusal) (line : List ℕ) (result : Status) (w : Written) → line ≡ refusal_line refusal → Ended status.Script line result w → Came (Err refusal) result w
 refused_said refusal line result w is e = refused_came refusal result w (subst (λ t. Ended status.Script t result w) is e)
+
+-- how the run of a script's lines from its start mesh stopped
+pub at_start : (s : PlainScript) (cause : Cause) (line : ℕ) (m : Mesh) (lines : List Line) (w : Written) → m ≡ first_mesh s → lines ≡ s.lines → RunStops cause line m lines w → RunStops cause line (first_mesh s) s.lines w
+at_start s cause line m lines w m_is lines_are stops = subst (λ ls. RunStops cause line (first_mesh s) ls w) lines_are (subst (λ x. RunStops cause line x lines w) m_is stops)
+
+-- a run in which no command was refused
+pub came_done : (s : PlainScript) (w : Written) → stop_in s ≡ None → Wrote (texts (first_mesh s) (done_in s)) w → Came (Ok s) status.Done w
+came_done s w none wrote = inl (record {
+  status_is = sym (ap (λ o. (ending s.declared.names o).status) none);
+  wrote = record {
+    takes = subst (λ o. Takes w.before (texts (first_mesh s) (done_in s) ++ (ending s.declared.names o).text) w.after) (sym none) (subst (λ t. Takes w.before t w.after) (sym (append-nil (texts (first_mesh s) (done_in s)))) wrote.takes);
+    calm = wrote.calm;
+  };
+})
+
+pub came_done_from : (s : PlainScript) (m : Mesh) (lines : List Line) (w : Written) → m ≡ first_mesh s → lines ≡ s.lines → stop m lines ≡ None → Wrote (texts m (done m lines)) w → Came (Ok s) status.Done w
+came_done_from s m lines w m_is lines_are none wrote =
+    came_done s w
+    (subst (λ ls. stop (first_mesh s) ls ≡ None) lines_are (subst (λ x. stop x lines ≡ None) m_is none))
+    (subst (λ ls. Wrote (texts (first_mesh s) (done (first_mesh s) ls)) w) lines_are (subst (λ x. Wrote (texts x (done x lines)) w) m_is wrote))
+
+-- the sink failed while the commands printed
+pub came_failed : (s : PlainScript) (w : Written) → WrotePart (texts (first_mesh s) (done_in s)) w → Came (Ok s) status.WriteFault w
+came_failed s w part = inr (inr (record {
+  status_is = refl;
+  text = (answer_of (Ok s)).text;
+  text_is = inl refl;
+  wrote = record {
+    takes = part_within w.before w.before w.after [] (texts (first_mesh s) (done_in s)) (ending s.declared.names (stop_in s)).text (answer_of (Ok s)).text (nothing_taken w.before) part.takes refl;
+    rose = part.rose;
+  };
+}))
+
+-- a command was refused, and its line ended the run
+pub came_refused : (s : PlainScript) (line : ℕ) (reason : stops.Refusal) (result : Status) (a b c : Option (List ℕ)) (f g h : ℕ) → stop_in s ≡ Some (record { line = line; why = reason }) →
+    Wrote (texts (first_mesh s) (done_in s)) (record { before = a; after = b; faults = f; new_faults = g }) → Ended (status_of reason) (stop_line s.declared.names line reason) result (record { before = b; after = c; faults = g; new_faults = h }) →
+    Came (Ok s) result (record { before = a; after = c; faults = f; new_faults = h })
+came_refused s line reason result a b c f g h some wrote (inl e) = inl (record {
+  status_is = e.0 ∙ sym (ap (λ o. (ending s.declared.names o).status) some);
+  wrote = record {
+    takes = subst (λ o. Takes a (texts (first_mesh s) (done_in s) ++ (ending s.declared.names o).text) c) (sym some) (takes_more a b c (texts (first_mesh s) (done_in s)) (stop_line s.declared.names line reason) wrote.takes e.1.takes);
+    calm = e.1.calm ∙ wrote.calm;
+  };
+})
+came_refused s line reason result a b c f g h some wrote (inr e) = inr (inr (record {
+  status_is = e.0;
+  text = (answer_of (Ok s)).text;
+  text_is = inl refl;
+  wrote = record {
+    takes = part_within a b c (texts (first_mesh s) (done_in s)) (stop_line s.declared.names line reason) [] (answer_of (Ok s)).text wrote.takes e.1.takes (ap (λ o. texts (first_mesh s) (done_in s) ++ (ending s.declared.names o).text) some ∙ sym (append-nil (texts (first_mesh s) (done_in s) ++ stop_line s.declared.names line reason)));
+    rose = subst (λ x. Rose x h) wrote.calm e.1.rose;
+  };
+}))
 
 -- ---- what a built script is
 
@@ -142,17 +289,50 @@ built_row d limits h =
       z = eqb-true _ _ one.1;
     }
 
--- ---- totals
+side_kind_is : (sides : List SideKind) (k : ℕ) → side_kind sides k ≡ get_or sides k Periodic
+side_kind_is [] k = refl
+side_kind_is (side ∷ sides) zero = refl
+side_kind_is (side ∷ sides) (suc k) = side_kind_is sides k
 
--- totals are kept along the run of a script that is run
-totals_kept_by : (built : Bool) (s : PlainScript) → is_built s 1 1 ≡ built → TotalsAreKept (if built then Ok s else Err refusals.NotBuilt)
-totals_kept_by true s h = runs_keep_totals (first_mesh s) s.lines (built_lines s h)
-totals_kept_by false s h = tt
+-- the limits of the language are those of a mesh
+pub shape_of : (d : Declared) → InLimits d → IsShape d.shape
+shape_of d limits = record {
+  rx = limits.shape.rx.0;
+  ry = limits.shape.ry.0;
+  rz = limits.shape.rz.0;
+  few_x = limits.shape.rx.1;
+  few_y = limits.shape.ry.1;
+  few_z = limits.shape.rz.1;
+  cells = limits.shape.n;
+  guards = limits.shape.g;
+  min = limits.shape.levels.0;
+  max = limits.shape.levels.1;
+  six = limits.shape.sides.six;
+  both = paired;
+}
+  where
+    same : (a b : ℕ) → is_periodic_kind (get_or d.shape.sides a Periodic) ≡ is_periodic_kind (get_or d.shape.sides b Periodic) → is_periodic_kind (side_kind d.shape.sides a) ≡ is_periodic_kind (side_kind d.shape.sides b)
+    same a b e = ap is_periodic_kind (side_kind_is d.shape.sides a) ∙ e ∙ ap is_periodic_kind (sym (side_kind_is d.shape.sides b))
+    paired : (a : Axis) → is_periodic_kind (side_kind d.shape.sides (side_index a)) ≡ is_periodic_kind (side_kind d.shape.sides (suc (side_index a)))
+    paired X = same 0 1 limits.shape.sides.x
+    paired Y = same 2 3 limits.shape.sides.y
+    paired Z = same 4 5 limits.shape.sides.z
 
-totals_kept : (read : Result PlainScript Fault) → TotalsAreKept (admitted read)
-totals_kept (Ok s) = totals_kept_by (is_built s 1 1) s refl
-totals_kept (Err fault) = tt
+-- ---- laws along a run
 
-pub totals_kept_of : (left : Option (List ℕ)) → IfSome left (λ bytes. TotalsAreKept (script_in bytes))
-totals_kept_of None = tt
-totals_kept_of (Some bytes) = totals_kept (read_in bytes)
+first_is : (s : PlainScript) → declared_in (first_mesh s) ≡ s.declared
+first_is s = refl
+
+-- what holds at each command of a run from a valid mesh holds along a script that is run
+module _ (R : Mesh → Command → Mesh → Type 0) (law : (m : Mesh) (lines : List Line) → ValidMesh m → All (IsLineOf (declared_in m)) lines → AtEachCommand R m (done m lines)) where
+  kept_by : (built : Bool) (s : PlainScript) → InLimits s.declared → All (IsLineOf s.declared) s.lines → AlongRun R (if built then Ok s else Err refusals.NotBuilt)
+  kept_by true s limits lines = law (first_mesh s) s.lines (start_mesh_valid s.declared.shape s.declared.names (shape_of s.declared limits) limits.names.few) lines
+  kept_by false s limits lines = tt
+
+  kept : (bytes : List ℕ) → (read : Result PlainScript Fault) → script_of None bytes ≡ read → AlongRun R (admitted read)
+  kept bytes (Ok s) e = kept_by (is_built s 1 1) s (script_in_limits None bytes s tt e) (script_fits None bytes s e)
+  kept bytes (Err fault) e = tt
+
+  pub along_run : (left : Option (List ℕ)) → IfSome left (λ bytes. AlongRun R (script_in bytes))
+  along_run None = tt
+  along_run (Some bytes) = kept (take LIMIT bytes) (read_in bytes) refl

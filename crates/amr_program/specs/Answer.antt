@@ -1,13 +1,19 @@
 -- The plain answer: what a run answers and prints, as a function of its words and of the bytes of its source.
-use Rattle.std.specs.Prelude.{◌≡◌, ℕ, true, false, if◌then◌else◌, List, [], ◌∷◌, ◌++◌, Option, None, Result, Ok, Err, ◌⊎◌, IfSome, length, take, ◌≤◌}
+use Rattle.std.specs.Prelude.{◌≡◌, ℕ, true, false, if◌then◌else◌, List, [], ◌∷◌, ◌++◌, Option, Some, None, Result, Ok, Err, ◌⊎◌, IfSome, length, take, ◌≤◌}
 use Rattle.amr_engine.specs.Built.{is_built}
 use Rattle.mesh_model.specs.Commands.{PlainScript}
 use Rattle.mesh_model.specs.Grammar.{Fault, script_of}
 use Rattle.mesh_model.specs.Plain.{Mesh}
-use Rattle.mesh_model.specs.Run.{AtEachCommand, KeepsTotals, first_mesh, texts}
+use Rattle.mesh_model.specs.Run.{AtEachCommand, Refused, done, first_mesh, stop, texts}
+use Rattle.mesh_model.specs.StopTexts.{stop_line}
+use Rattle.mesh_model.specs.VariableNames.{VariableNames}
+use Rattle.mesh_model.specs.declared.script.Command.{Command}
+use Rattle.mesh_model.specs.declared.script.Line.{Line}
+use Rattle.mesh_model.specs.declared.stops.Refusal as stops
+use Rattle.mesh_model.specs.declared.stops.Refusal.TheVariants as why
 use Rattle.outside_io.specs.Moved.{Takes, TakesPrefix}
 use Rattle.amr_program.specs.declared.status.Status.{Status}
-use Rattle.amr_program.specs.declared.status.Status.TheVariants.{Done, Words, Script}
+use Rattle.amr_program.specs.declared.status.Status.TheVariants.{Done, Words, Script, Stopped, Level}
 use Rattle.amr_program.specs.declared.program.TheConstants.{LIMIT}
 use Rattle.amr_program.specs.declared.refusal.Refusal.{Refusal}
 use Rattle.amr_program.specs.declared.refusal.Refusal.TheVariants as refusals
@@ -31,9 +37,33 @@ admitted (Err fault) = Err (refusals.Fault fault.line fault.reason)
 abbrev pub script_in : List ℕ → Result PlainScript Refusal
 script_in bytes = admitted (read_in bytes)
 
--- a script that is run runs to its end
+-- the status of a run that a refused command ends
+abbrev pub status_of : stops.Refusal → Status
+status_of (why.Range stop) = Stopped
+status_of (why.Courant speeds) = Stopped
+status_of (why.Level stop) = Level
+status_of (why.Place spot) = Stopped
+status_of (why.PlaceBlock at) = Stopped
+status_of (why.Blocks count) = Stopped
+
+-- how a run ends: a script that is not stopped runs to its end, and a refused command has the last line
+abbrev pub ending : VariableNames → Option Refused → Answer
+ending names None = record { status = Done; text = [] }
+ending names (Some refused) = record { status = status_of refused.why; text = stop_line names refused.line refused.why }
+
+-- the commands of a script that are done, and the first that is refused
+abbrev pub done_in : PlainScript → List Line
+done_in s = done (first_mesh s) s.lines
+
+abbrev pub stop_in : PlainScript → Option Refused
+stop_in s = stop (first_mesh s) s.lines
+
+-- what a script answers: the texts of the commands that are done, and how the run ends
 abbrev pub answer_of : Result PlainScript Refusal → Answer
-answer_of (Ok s) = record { status = Done; text = texts (first_mesh s) s.lines }
+answer_of (Ok s) = record {
+  status = (ending s.declared.names (stop_in s)).status;
+  text = texts (first_mesh s) (done_in s) ++ (ending s.declared.names (stop_in s)).text;
+}
 answer_of (Err refusal) = record { status = Script; text = refusal_line refusal }
 
 -- no word is taken yet
@@ -51,14 +81,19 @@ abbrev pub IsRefused : Result PlainScript Fault → Type 0
 IsRefused (Ok s) = is_built s 1 1 ≡ false
 IsRefused (Err fault) = Unit {0}
 
--- the bytes are a script, and it is built
+-- the bytes are a script, it is built, and none of its commands is refused
 abbrev pub IsAccepted : Result PlainScript Fault → Type 0
-IsAccepted (Ok s) = is_built s 1 1 ≡ true
+IsAccepted (Ok s) = (is_built s 1 1 ≡ true) × (stop_in s ≡ None)
 IsAccepted (Err fault) = ⊥
 
--- what the first k commands of the script print
+-- the script is run, and a command is refused with this status
+abbrev pub IsStoppedWith : Status → Result PlainScript Refusal → Type 0
+IsStoppedWith status (Ok s) = (refused : Refused) × (stop_in s ≡ Some refused) × (status_of refused.why ≡ status)
+IsStoppedWith status (Err refusal) = ⊥
+
+-- what the first k of the commands that are done print
 abbrev pub first_texts : Result PlainScript Refusal → ℕ → List ℕ
-first_texts (Ok s) k = texts (first_mesh s) (take k s.lines)
+first_texts (Ok s) k = texts (first_mesh s) (take k (done_in s))
 first_texts (Err refusal) k = []
 
 -- a text that a run would have printed: the plain answer's, or what a fault of the source or want of memory ends
@@ -73,7 +108,7 @@ TookPart words bytes before after = (text : List ℕ) × MayPrint words bytes te
 abbrev pub TookBeforeMemory : List ℕ → Option (List ℕ) → Option (List ℕ) → Type 0
 TookBeforeMemory bytes before after = (k : ℕ) × Takes before (first_texts (script_in bytes) k ++ memory_line) after
 
--- at each command of the script's run each variable's total and what has flowed out of it are kept, unless it is filled
-abbrev pub TotalsAreKept : Result PlainScript Refusal → Type 0
-TotalsAreKept (Ok s) = AtEachCommand KeepsTotals (first_mesh s) s.lines
-TotalsAreKept (Err refusal) = Unit {0}
+-- R holds at each command of the script's run that is done
+abbrev pub AlongRun : (Mesh → Command → Mesh → Type 0) → Result PlainScript Refusal → Type 0
+AlongRun R (Ok s) = AtEachCommand R (first_mesh s) (done_in s)
+AlongRun R (Err refusal) = Unit {0}

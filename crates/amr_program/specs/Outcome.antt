@@ -2,11 +2,13 @@
 use Rattle.std.specs.Prelude.{◌≡◌, ◌≢◌, ℕ, List, [], ◌++◌, Option, Some, None, Result, ◌⊎◌, IfSome, take, drop}
 use Rattle.amr_engine.specs.declared.engine.Cause.{Cause}
 use Rattle.amr_engine.specs.declared.engine.Cause.TheVariants as causes
+use Rattle.amr_engine.specs.Stopping.{Written}
 use Rattle.mesh_model.specs.declared.script.Line.{Line}
 use Rattle.mesh_model.specs.Commands.{PlainScript}
 use Rattle.mesh_model.specs.Grammar.{script_of}
 use Rattle.mesh_model.specs.Plain.{Mesh}
-use Rattle.mesh_model.specs.Run.{texts}
+use Rattle.mesh_model.specs.Run.{done, stop, texts}
+use Rattle.mesh_model.specs.declared.stops.Refusal.TheVariants as why
 use Rattle.outside_io.specs.Moved.{Rose, Takes, TakesPrefix}
 use Rattle.amr_program.specs.declared.status.Status.{Status}
 use Rattle.amr_program.specs.declared.status.Status.TheVariants as status
@@ -14,13 +16,6 @@ use Rattle.amr_program.specs.declared.program.TheConstants.{LIMIT}
 use Rattle.amr_program.specs.declared.refusal.Refusal.{Refusal}
 use Rattle.amr_program.specs.Answer.{Answer, admitted, answer_of, first_texts}
 use Rattle.amr_program.specs.Lines.{memory_line, read_line, words_line}
-
--- the sink before and after, by the bytes that it took and its faults
-pub record Written : Type 0 where
-  pub before : Option (List ℕ)
-  pub after : Option (List ℕ)
-  pub faults : ℕ
-  pub new_faults : ℕ
 
 -- the text was written, without a fault
 pub record Wrote (text : List ℕ) (w : Written) : Type 0 where
@@ -36,10 +31,12 @@ pub record WrotePart (text : List ℕ) (w : Written) : Type 0 where
 abbrev pub Ended : Status → List ℕ → Status → Written → Type 0
 Ended ends text result w = ((result ≡ ends) × Wrote text w) ⊎ ((result ≡ status.WriteFault) × WrotePart text w)
 
--- how a run of commands stopped: the sink failed, or memory was refused at a command
-abbrev pub RunStops : Cause → Mesh → List Line → Written → Type 0
-RunStops causes.WriteFault m lines w = WrotePart (texts m lines) w
-RunStops causes.OutOfMemory m lines w = (k : ℕ) × Wrote (texts m (take k lines)) w
+-- how a run of commands stopped, at a line: the command there is refused; the sink failed; or memory was refused at a command
+abbrev pub RunStops : Cause → ℕ → Mesh → List Line → Written → Type 0
+RunStops (causes.Range range) line m lines w = (stop m lines ≡ Some (record { line = line; why = why.Range range })) × Wrote (texts m (done m lines)) w
+RunStops (causes.Courant speeds) line m lines w = (stop m lines ≡ Some (record { line = line; why = why.Courant speeds })) × Wrote (texts m (done m lines)) w
+RunStops causes.WriteFault line m lines w = WrotePart (texts m (done m lines)) w
+RunStops causes.OutOfMemory line m lines w = (k : ℕ) × Wrote (texts m (take k (done m lines))) w
 
 -- the answer came, with all of its text
 pub record Answered (read : Result PlainScript Refusal) (result : Status) (w : Written) : Type 0 where

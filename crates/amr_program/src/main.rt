@@ -5,6 +5,7 @@ mod program;
 mod refusal;
 mod run;
 mod status;
+mod stop_line;
 #[cfg(test)]
 mod tests;
 

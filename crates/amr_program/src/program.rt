@@ -1,6 +1,7 @@
-ghost use Rattle.amr_program.specs.Answer.{IsAccepted, IsAnswer, IsRefused, TookBeforeMemory, TookPart, TotalsAreKept, plain_answer, read_in, script_in};
+ghost use Rattle.amr_program.specs.Answer.{AlongRun, IsAccepted, IsAnswer, IsRefused, IsStoppedWith, TookBeforeMemory, TookPart, plain_answer, read_in, script_in};
 ghost use Rattle.amr_program.specs.Lines.{read_line};
 ghost use Rattle.amr_program.specs.Outcome.{Outcome};
+ghost use Rattle.mesh_model.specs.Run.{KeepsOuts, KeepsTotals, StaysPositive};
 ghost use Rattle.outside_io.specs.Moved.{Rose, Takes};
 ghost use Rattle.std.specs.Prelude.{◌≡◌, ◌≢◌, ℕ, ◌<◌, ◌⊎◌, List, [], Option, Some, IfSome, drop, map, string_bytes};
 
@@ -29,6 +30,8 @@ pub fn amr<S: Source, K: Sink, D: Disk>(
     // Each other status has its cause, and comes where the cause is.
     ensures words_refused { result ≡ Status.Words → words.now ≢ [] }
     ensures words_alone { words.now ≢ [] → (result ≡ Status.Words) ⊎ (result ≡ Status.WriteFault) }
+    ensures stopped { result ≡ Status.Stopped → (words.now ≡ []) × IfSome (S.left source.old) (λ bytes. IsStoppedWith Status.Stopped (script_in bytes)) }
+    ensures level { result ≡ Status.Level → (words.now ≡ []) × IfSome (S.left source.old) (λ bytes. IsStoppedWith Status.Level (script_in bytes)) }
     ensures script_refused { result ≡ Status.Script → (words.now ≡ []) × IfSome (S.left source.old) (λ bytes. IsRefused (read_in bytes)) }
     ensures read_fault { result ≡ Status.ReadFault → Rose (S.faults source.old) (S.faults source.new) }
     ensures read_fault_told { S.faults source.old < S.faults source.new → ¬ Rose (K.faults sink.old) (K.faults sink.new) → (result ≡ Status.ReadFault) × Takes (K.taken sink.old) read_line (K.taken sink.new) }
@@ -46,8 +49,11 @@ pub fn amr<S: Source, K: Sink, D: Disk>(
     ensures read { words.now ≡ [] → ¬ Rose (S.faults source.old) (S.faults source.new) → IfSome (S.left source.old) (λ bytes. S.left source.new ≡ Some (drop LIMIT bytes)) }
     ensures disk { disk.new ≡ disk.old }
 
-    // Totals change by fills alone.
-    ensures totals { IfSome (S.left source.old) (λ bytes. TotalsAreKept (script_in bytes)) }
+    // The total of a variable and what has flowed out of it change together by fills alone, what has flowed out by
+    // advects alone, and an advect leaves no content below 0 where none was.
+    ensures totals { IfSome (S.left source.old) (λ bytes. AlongRun KeepsTotals (script_in bytes)) }
+    ensures outs { IfSome (S.left source.old) (λ bytes. AlongRun KeepsOuts (script_in bytes)) }
+    ensures positive { IfSome (S.left source.old) (λ bytes. AlongRun StaysPositive (script_in bytes)) }
 {
     answer_words(alloc, words, source, sink, disk)
 }

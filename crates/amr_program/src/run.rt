@@ -1,20 +1,24 @@
 ghost use Rattle.amr_engine.specs.Plain.{declared_of, plain};
-ghost use Rattle.amr_program.specs.Answer.{admitted};
+ghost use Rattle.amr_program.specs.Answer.{admitted, status_of};
 ghost use Rattle.amr_program.specs.Lines.{memory_line, read_line, refusal_line, words_line};
 ghost use Rattle.amr_program.specs.Outcome.{Came, Ended, RunStops, Wrote};
 ghost use Rattle.amr_engine.specs.Built.{IsBuiltLine, is_built};
 ghost use Rattle.mesh_model.specs.Commands.{InLimits, IsLineOf, plain_script};
 ghost use Rattle.mesh_model.specs.Grammar.{script_of};
-ghost use Rattle.mesh_model.specs.Run.{texts};
+ghost use Rattle.mesh_model.specs.Run.{done, stop, texts};
+ghost use Rattle.mesh_model.specs.StopTexts.{stop_line};
 ghost use Rattle.std.specs.Prelude.{◌≡◌, true, All, IfErr, IfOk, OnOk, None, Ok, Err};
 
 use crate::refusal::Refusal;
 use crate::status::Status;
+use crate::stop_line::write_stop;
 use amr_engine::built::built;
 use amr_engine::engine::{Cause, Engine, Stop};
 use amr_engine::line_text::LineText;
 use amr_num::OutOfMemory;
+use mesh_model::names::Names;
 use mesh_model::script::Reason;
+use mesh_model::stops;
 use outside_io::disk::Disk;
 use outside_io::sink::{Sink, write_all};
 use script_lang::reader::{ScriptStop, read_script};
@@ -60,14 +64,30 @@ fn run<K: Sink, D: Disk>(
 ) -> Result<(), Stop>
     requires fit { All (IsLineOf (declared_of engine.old)) lines.now }
     requires built { All IsBuiltLine lines.now }
-    ensures text { OnOk result (Wrote (texts (plain engine.old) lines.now) (record { before = K.taken sink.old; after = K.taken sink.new; faults = K.faults sink.old; new_faults = K.faults sink.new })) }
-    ensures stops { IfErr result (λ stop. RunStops stop.cause (plain engine.old) lines.now (record { before = K.taken sink.old; after = K.taken sink.new; faults = K.faults sink.old; new_faults = K.faults sink.new })) }
+    ensures text { OnOk result (Wrote (texts (plain engine.old) (done (plain engine.old) lines.now)) (record { before = K.taken sink.old; after = K.taken sink.new; faults = K.faults sink.old; new_faults = K.faults sink.new })) }
+    ensures whole { OnOk result (stop (plain engine.old) lines.now ≡ None) }
+    ensures stops { IfErr result (λ stopped. RunStops stopped.cause stopped.line (plain engine.old) lines.now (record { before = K.taken sink.old; after = K.taken sink.new; faults = K.faults sink.old; new_faults = K.faults sink.new })) }
+    ensures names { declared_of engine.new ≡ declared_of engine.old }
     ensures disk { disk.new ≡ disk.old }
 {
     for line in lines {
         engine.command(line, sink, disk)?;
     }
     Ok(())
+}
+
+/// Writes the last line of a run that a refused command ends.
+fn end_refused<K: Sink>(
+    sink: &mut K,
+    text: &mut LineText,
+    names: &Names,
+    line: u32,
+    why: stops::Refusal,
+) -> Status
+    ensures { Ended (status_of why) (stop_line names.now line why) result (record { before = K.taken sink.old; after = K.taken sink.new; faults = K.faults sink.old; new_faults = K.faults sink.new }) }
+{
+    write_stop(text, names, line, why);
+    end_with(sink, text.as_bytes(), Status::of_refusal(why))
 }
 
 /// Runs a script from the start mesh.
@@ -79,6 +99,11 @@ fn run_script<K: Sink, D: Disk>(alloc: Global, script: Script, sink: &mut K, dis
     ensures disk { disk.new ≡ disk.old }
 {
     let Script { declared, lines } = script;
+    // The room for the last line is taken first, so that a run that is stopped wants no memory.
+    let mut text = match LineText::new(alloc) {
+        Ok(text) => text,
+        Err(_) => return end(sink, MEMORY_LINE, Status::OutOfMemory),
+    };
     let mut engine = match Engine::new(alloc, declared) {
         Ok(engine) => engine,
         Err(_) => return end(sink, MEMORY_LINE, Status::OutOfMemory),
@@ -86,6 +111,14 @@ fn run_script<K: Sink, D: Disk>(alloc: Global, script: Script, sink: &mut K, dis
     match run(&mut engine, &lines, sink, disk) {
         Ok(()) => Status::Done,
         Err(stop) => match stop.cause {
+            Cause::Range(range) => {
+                let why = stops::Refusal::Range(range);
+                end_refused(sink, &mut text, engine.names(), stop.line, why)
+            }
+            Cause::Courant(speeds) => {
+                let why = stops::Refusal::Courant(speeds);
+                end_refused(sink, &mut text, engine.names(), stop.line, why)
+            }
             Cause::WriteFault => Status::WriteFault,
             Cause::OutOfMemory => end(sink, MEMORY_LINE, Status::OutOfMemory),
         },

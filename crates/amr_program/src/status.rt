@@ -1,3 +1,5 @@
+use mesh_model::stops::Refusal;
+
 /// How a run of the program ended.
 #[derive(Clone, Copy, Debug, PartialEq, Eq)]
 pub enum Status {
@@ -7,6 +9,10 @@ pub enum Status {
     Words,
     /// The script is refused.
     Script,
+    /// A command was refused for another reason than its level.
+    Stopped,
+    /// A mark was refused at the limit of levels.
+    Level,
     /// The source failed.
     ReadFault,
     /// The sink failed.
@@ -16,8 +22,23 @@ pub enum Status {
 }
 
 impl Status {
+    ghost use Rattle.amr_program.specs.Answer.{status_of};
     ghost use Rattle.amr_program.specs.Exit.{exit_of};
     ghost use Rattle.std.specs.Prelude.{◌≡◌};
+
+    /// The status of a run that a refused command ends.
+    pub fn of_refusal(why: Refusal) -> Status
+        ensures { result ≡ status_of why }
+    {
+        match why {
+            Refusal::Level(_) => Status::Level,
+            Refusal::Range(_)
+            | Refusal::Courant(_)
+            | Refusal::Place(_)
+            | Refusal::PlaceBlock(_)
+            | Refusal::Blocks(_) => Status::Stopped,
+        }
+    }
 
     /// The exit number of the program.
     pub fn exit(self) -> u8
@@ -27,6 +48,8 @@ impl Status {
             Status::Done => 0,
             Status::Words => 2,
             Status::Script => 3,
+            Status::Stopped => 4,
+            Status::Level => 5,
             Status::ReadFault => 6,
             Status::WriteFault => 7,
             Status::OutOfMemory => 11,

@@ -1,4 +1,4 @@
-ghost use Rattle.std.specs.Prelude.{◌≡◌, ℕ, ◌<◌, ◌≤◌, List, [], ◌∷◌, ◌++◌, length, map, slice_get, IfOk, OnOk, OnErr, Option, Some, None};
+ghost use Rattle.std.specs.Prelude.{◌≡◌, ℕ, ◌<◌, ◌≤◌, List, [], ◌∷◌, ◌++◌, length, map, slice_get, IfOk, IfSome, OnOk, OnErr, Option, Some, None};
 ghost use Rattle.std.specs.Option.{option_copied, option_map};
 ghost use Rattle.mesh_model.specs.VariableNames.{no_names};
 
@@ -22,7 +22,7 @@ pub struct Names {
 }
 
 impl Model for Names {
-    ghost use Rattle.std.specs.Prelude.{◌≤◌, All, length, map, string_bytes};
+    ghost use Rattle.std.specs.Prelude.{◌≤◌, All, IfSome, length, map, string_bytes};
     ghost use Rattle.std.specs.Option.{option_map};
     ghost use Rattle.mesh_model.specs.VariableNames.{VariableNames};
     ghost use Rattle.mesh_model.specs.declared.names.TheConstants.{CELL_VARIABLES, NAME_LENGTH};
@@ -31,7 +31,7 @@ impl Model for Names {
 
     ghost view = { λ n. record { cells = map (λ s. string_bytes s) n.cells.items; face = option_map (λ s. string_bytes s) n.face; edge = option_map (λ s. string_bytes s) n.edge } };
 
-    ghost invariant = { λ n. (length n.cells.items ≤ CELL_VARIABLES) × All (λ s. length (string_bytes s) ≤ NAME_LENGTH) n.cells.items };
+    ghost invariant = { λ n. (length n.cells.items ≤ CELL_VARIABLES) × All (λ s. length (string_bytes s) ≤ NAME_LENGTH) n.cells.items × IfSome n.face (λ s. length (string_bytes s) ≤ NAME_LENGTH) × IfSome n.edge (λ s. length (string_bytes s) ≤ NAME_LENGTH) };
 }
 
 impl Names {
@@ -65,7 +65,8 @@ impl Names {
 
     /// The name of the face variable: `None` exactly where none is declared.
     pub fn face(&self) -> Option<&str>
-        ensures { option_copied result ≡ self.now.face }
+        ensures name { option_copied result ≡ self.now.face }
+        ensures short { IfSome result (λ name. length name.now ≤ NAME_LENGTH) }
     {
         match &self.face {
             Some(name) => Some(name.as_str()),
@@ -75,7 +76,8 @@ impl Names {
 
     /// The name of the edge variable: `None` exactly where none is declared.
     pub fn edge(&self) -> Option<&str>
-        ensures { option_copied result ≡ self.now.edge }
+        ensures name { option_copied result ≡ self.now.edge }
+        ensures short { IfSome result (λ name. length name.now ≤ NAME_LENGTH) }
     {
         match &self.edge {
             Some(name) => Some(name.as_str()),
@@ -119,6 +121,7 @@ impl Names {
 
     /// Declares the face variable `name`.
     pub fn set_face(&mut self, alloc: Global, name: &str) -> Result<(), OutOfMemory>
+        requires { length name.now ≤ NAME_LENGTH }
         ensures ok { OnOk result (self.new ≡ record self.old { face = Some name.now }) }
         ensures err { OnErr result (self.new ≡ self.old) }
     {
@@ -133,6 +136,7 @@ impl Names {
 
     /// Declares the edge variable `name`.
     pub fn set_edge(&mut self, alloc: Global, name: &str) -> Result<(), OutOfMemory>
+        requires { length name.now ≤ NAME_LENGTH }
         ensures ok { OnOk result (self.new ≡ record self.old { edge = Some name.now }) }
         ensures err { OnErr result (self.new ≡ self.old) }
     {

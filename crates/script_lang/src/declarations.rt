@@ -118,7 +118,8 @@ pub fn cellvar<'a>(names: &Names, words: &[&'a [u8]]) -> Result<&'a str, Reason>
 #[tactic(auto, unfolding(mesh_model::specs::Declarations::facevar))]
 pub fn facevar<'a>(names: &Names, words: &[&'a [u8]]) -> Result<&'a str, Reason>
     requires { length words.now ≡ 2 }
-    ensures { MatchResult result (λ s. plain.facevar names.now (texts words.now) ≡ Ok (record names.now { face = Some s.now })) (λ e. plain.facevar names.now (texts words.now) ≡ Err e) }
+    ensures name { MatchResult result (λ s. plain.facevar names.now (texts words.now) ≡ Ok (record names.now { face = Some s.now })) (λ e. plain.facevar names.now (texts words.now) ≡ Err e) }
+    ensures short { IfOk result (λ s. length s.now ≤ NAME_LENGTH) }
 {
     new_name(names, names.face().is_some(), word(words, 1))
 }
@@ -127,7 +128,8 @@ pub fn facevar<'a>(names: &Names, words: &[&'a [u8]]) -> Result<&'a str, Reason>
 #[tactic(auto, unfolding(mesh_model::specs::Declarations::edgevar))]
 pub fn edgevar<'a>(names: &Names, words: &[&'a [u8]]) -> Result<&'a str, Reason>
     requires { length words.now ≡ 2 }
-    ensures { MatchResult result (λ s. plain.edgevar names.now (texts words.now) ≡ Ok (record names.now { edge = Some s.now })) (λ e. plain.edgevar names.now (texts words.now) ≡ Err e) }
+    ensures name { MatchResult result (λ s. plain.edgevar names.now (texts words.now) ≡ Ok (record names.now { edge = Some s.now })) (λ e. plain.edgevar names.now (texts words.now) ≡ Err e) }
+    ensures short { IfOk result (λ s. length s.now ≤ NAME_LENGTH) }
 {
     new_name(names, names.edge().is_some(), word(words, 1))
 }

@@ -1,7 +1,9 @@
 use Rattle.std.proofs.Common.{ap, map}
 use Rattle.std.specs.Prelude.{string_bytes}
 use Rattle.amr_program.proofs.Clauses as clauses
-use Rattle.amr_program.proofs.Commands.{totals_kept_of}
+use Rattle.mesh_model.specs.Run.{KeepsOuts, KeepsTotals, StaysPositive}
+use Rattle.mesh_model.proofs.RunLaws.{runs_keep_outs, runs_keep_totals, runs_stay_positive}
+use Rattle.amr_program.proofs.Commands.{along_run}
 use Rattle.amr_program.proofs.program.amr.Goals as goal
 
 pub returns-clause-answer : goal.returns-clause-answer
@@ -37,8 +39,20 @@ returns-clause-part g c = clauses.part _ _ _ _ c.answer_words.ensures.outcome
 pub returns-clause-memory : goal.returns-clause-memory
 returns-clause-memory g c = clauses.memory _ _ _ _ c.answer_words.ensures.outcome
 
+pub returns-clause-stopped : goal.returns-clause-stopped
+returns-clause-stopped g c is = let told = clauses.stopped _ _ _ _ c.answer_words.ensures.outcome is in (clauses.no_words (λ w. string_bytes w) c.args.words.now told.0, told.1)
+
+pub returns-clause-level : goal.returns-clause-level
+returns-clause-level g c is = let told = clauses.level _ _ _ _ c.answer_words.ensures.outcome is in (clauses.no_words (λ w. string_bytes w) c.args.words.now told.0, told.1)
+
 pub returns-clause-totals : goal.returns-clause-totals
-returns-clause-totals g c = totals_kept_of _
+returns-clause-totals g c = along_run KeepsTotals runs_keep_totals _
+
+pub returns-clause-outs : goal.returns-clause-outs
+returns-clause-outs g c = along_run KeepsOuts runs_keep_outs _
+
+pub returns-clause-positive : goal.returns-clause-positive
+returns-clause-positive g c = along_run StaysPositive runs_stay_positive _
 
 pub returns-clause-read : goal.returns-clause-read
 returns-clause-read g c none = clauses.read _ _ _ _ c.answer_words.ensures.outcome (ap (map (λ w. string_bytes w)) none)
