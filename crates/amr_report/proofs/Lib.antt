@@ -1,0 +1,7 @@
+pub mod Joined
+pub mod Printed
+pub mod Numbered
+pub mod Reported
+pub mod Views
+pub mod Summed
+pub mod Refining

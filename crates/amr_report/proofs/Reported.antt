@@ -1,0 +1,91 @@
+-- Numbers and types of nodes as they are reported.
+use Rattle.std.proofs.Common.{◌≡◌, ℕ, zero, suc, ◌<◌, ◌==◌, false, inl, inr, List, [], ◌∷◌, ◌++◌, Some, None, length, pos, refl, ap, ◌∙◌, subst, arith, eqb-true}
+use Rattle.std.proofs.lemmas.Bool.{cases_Bool}
+use Rattle.std.specs.Fmt.{signed_decimal}
+use Rattle.std.specs.Prelude.{codes, decimal, map}
+use Rattle.amr_num.specs.declared.Axis.TheVariants.{X, Y, Z}
+use Rattle.amr_num.specs.declared.BlockAt.{BlockAt}
+use Rattle.block_tree.specs.declared.tree.NodeKind.{NodeKind}
+use Rattle.block_tree.specs.declared.tree.NodeKind.TheVariants.{Leaf, AboveLeaf, Inner}
+use Rattle.block_tree.specs.declared.tree.Tree.{Tree}
+use Rattle.block_tree.specs.GridOf.{grid_of}
+use Rattle.block_tree.specs.Kinds.{kind_of}
+use Rattle.block_tree.specs.Numbered.{IsNumberOf, block_at, block_in}
+use Rattle.block_tree.proofs.Facts.{known}
+use Rattle.block_tree.proofs.Flags.{same_says, same_shows}
+use Rattle.block_tree.proofs.Members.{in_at}
+use Rattle.block_tree.proofs.Next.{all_sorted}
+use Rattle.mesh_model.specs.Order.{IsIn, Sorted, key, nodes}
+use Rattle.mesh_model.specs.Plain.{Grid, is_leaf_block}
+use Rattle.mesh_model.specs.Blocks.{children, parent_block}
+use Rattle.std.specs.List.{list_any}
+use Rattle.mesh_model.specs.Setting.{is_same_block}
+use Rattle.mesh_model.specs.Tree.{all_across, number_of, parent_reported, reported, place_in, type_of}
+use Rattle.mesh_model.proofs.Tests.{refuted}
+use Rattle.amr_report.specs.Nodes.{line_of, node_begin, with_across, with_kind}
+use Rattle.amr_report.proofs.Joined.{join_words}
+
+-- ---- types
+
+abbrev pub type_code : NodeKind → ℕ
+type_code Leaf = 1
+type_code AboveLeaf = 2
+type_code Inner = 3
+
+pub kind_code : (g : Grid) (b : BlockAt) → type_code (kind_of g b) ≡ type_of g b
+unfolding kind_of
+kind_code g b = elim (cases_Bool (is_leaf_block g b)) [
+  | inl t ↦ rw t refl
+  | inr f ↦ rw f (elim (cases_Bool (list_any (is_leaf_block g) (children b))) [
+    | inl t ↦ rw t refl
+    | inr h ↦ rw h refl
+  ])
+]
+
+-- ---- numbers
+
+-- a block's place in sorted nodes
+place_is : (all : List BlockAt) (b : BlockAt) (i : ℕ) → Sorted all → i < length all → block_in all i ≡ b → place_in b all ≡ Some i
+place_is [] b i sorted h e = absurd (omega arith)
+place_is (c ∷ cs) b zero sorted h e = rw (same_shows c b e) refl
+place_is (c ∷ cs) b (suc i) sorted h e =
+    let less : key c < key b = sorted.0 b (subst (λ u. IsIn u cs) e (in_at cs i (omega arith))) in
+    let other : is_same_block c b ≡ false = refuted _ (λ t. let k = ap key (same_says c b t) in omega arith) in
+    rw (other, place_is cs b i sorted.1 (omega arith) e) refl
+
+no_place : (all : List BlockAt) (b : BlockAt) → (IsIn b all → ⊥) → place_in b all ≡ None
+no_place [] b out = refl
+no_place (c ∷ cs) b out =
+    let other : is_same_block c b ≡ false = refuted _ (λ t. out (inl (same_says c b t))) in
+    rw (other, no_place cs b (λ i. out (inr i))) refl
+
+pub number_is : (tree : Tree) (b : BlockAt) (node : ℕ) → IsNumberOf (grid_of tree) b node → number_of (grid_of tree) b ≡ Some node
+unfolding block_at
+number_is tree b node h =
+    let g = grid_of tree in
+    let whole = known tree in
+    place_is (nodes g.leaves) b node (all_sorted g whole.valid whole.order whole.few) h.there h.block
+
+pub no_number : (tree : Tree) (b : BlockAt) → (IsIn b (nodes (grid_of tree).leaves) → ⊥) → number_of (grid_of tree) b ≡ None
+no_number tree b out = no_place (nodes (grid_of tree).leaves) b out
+
+pub parent_is : (tree : Tree) (b : BlockAt) (parent : ℕ) → 0 < b.level → IsNumberOf (grid_of tree) (parent_block b) parent → parent_reported (grid_of tree) b ≡ pos parent
+parent_is tree b parent above h =
+    let fine : (b.level == 0) ≡ false = refuted _ (λ t. let e = eqb-true b.level 0 t in omega arith) in
+    rw (parent_reported, fine) (ap reported (number_is tree (parent_block b) parent h))
+
+-- ---- lines
+
+-- the words of a node's line after the first
+abbrev node_words : Grid → ℕ → BlockAt → List (List ℕ)
+node_words g number b =
+    decimal number ∷ codes "level" ∷ decimal b.level ∷ codes "at" ∷ decimal b.x ∷ decimal b.y ∷ decimal b.z
+    ∷ codes "type" ∷ decimal (type_of g b) ∷ codes "parent" ∷ signed_decimal (parent_reported g b)
+    ∷ codes "faces" ∷ map signed_decimal (all_across g b)
+
+-- a node's line, put together
+pub node_whole : (g : Grid) (node : ℕ) (b : BlockAt) (line : List ℕ) → b ≡ block_at g node → line ≡ with_across (with_across (with_across (with_kind (node_begin node b) (type_of g (block_at g node)) (parent_reported g (block_at g node))) g X b) g Y b) g Z b → line ++ codes "\n" ≡ line_of g node
+unfolding line_of
+node_whole g node b line here made =
+    let at : BlockAt → List ℕ = λ c. with_across (with_across (with_across (with_kind (node_begin node c) (type_of g (block_at g node)) (parent_reported g (block_at g node))) g X c) g Y c) g Z c in
+    ap (λ t. t ++ codes "\n") (made ∙ (ap at here ∙ join_words (codes "node") (node_words g node (block_at g node))))

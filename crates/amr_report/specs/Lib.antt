@@ -1,0 +1,5 @@
+pub mod Printing
+pub mod Totals
+pub mod Nodes
+pub mod Arrays
+pub mod Values

@@ -1,0 +1,73 @@
+-- What block values have of a mesh: the views at the interior places of leaves, and the guard values round one leaf.
+use Rattle.std.specs.Prelude.{◌≡◌, ℕ, ◌+◌, ◌*◌, ◌<◌, true, ℤ, pos, ◌-ℤ◌}
+use Rattle.amr_num.specs.declared.Axis.{Axis}
+use Rattle.amr_num.specs.declared.Axis.TheVariants.{X, Y, Z}
+use Rattle.amr_num.specs.declared.BlockAt.{BlockAt}
+use Rattle.block_tree.specs.Numbered.{IsNode, block_at}
+use Rattle.mesh_model.specs.declared.Shape.{Shape}
+use Rattle.mesh_model.specs.declared.script.Group.{Group}
+use Rattle.mesh_model.specs.declared.script.Group.TheVariants.{Cell, Face, Edge}
+use Rattle.mesh_model.specs.declared.values.Var.{Var}
+use Rattle.mesh_model.specs.Coordinates.{edge_of, face_of, next}
+use Rattle.mesh_model.specs.GuardValues.{cell_guard, edge_guard, face_guard}
+use Rattle.mesh_model.specs.Plain.{Grid, Mesh, is_leaf_block}
+use Rattle.mesh_model.specs.Texts.{guard_index, in_block, named_on}
+use Rattle.mesh_model.specs.Views.{edge_view, face_view}
+use Rattle.amr_report.specs.Arrays.{array_on, places_along}
+
+-- (i, j, k) is a place of an array, counted from its first one, in blocks of n cells with so many guard places at each end of each axis
+pub record IsPlace (n guards : ℕ) (var : Var) (i j k : ℕ) : Type 0 where
+  pub x : i < places_along n var X + 2 * guards
+  pub y : j < places_along n var Y + 2 * guards
+  pub z : k < places_along n var Z + 2 * guards
+
+-- ---- at interior places
+
+-- what a mesh has at the place (i, j, k) of a leaf's array for an axis: the content of a cell, or the view of a face or of an edge
+abbrev pub interior_value : Mesh → Group → Axis → BlockAt → ℕ → ℕ → ℕ → ℤ
+interior_value m (Cell v) a b i j k = m.cells v (in_block m.grid.shape.n b i j k)
+interior_value m Face a b i j k = face_view m.grid m.faces (face_of a (named_on m.grid.shape a (in_block m.grid.shape.n b i j k)))
+interior_value m Edge a b i j k =
+    edge_view m.grid m.edges (edge_of a (named_on m.grid.shape (next a) (named_on m.grid.shape (next (next a)) (in_block m.grid.shape.n b i j k))))
+
+-- at each interior place of the group's arrays, on each leaf, there is a number
+pub record HasInterior (is_there : Var → ℕ → ℤ → ℤ → ℤ → Type 0) (g : Grid) (group : Group) : Type 0 where
+  pub each : (node : ℕ) → IsNode g node → is_leaf_block g (block_at g node) ≡ true
+      → (a : Axis) (i j k : ℕ) → IsPlace g.shape.n 0 (array_on group a) i j k
+      → is_there (array_on group a) node (pos i) (pos j) (pos k)
+
+-- these numbers are what the mesh has there
+pub record HasViews (number : Var → ℕ → ℤ → ℤ → ℤ → ℤ) (m : Mesh) (group : Group) : Type 0 where
+  pub each : (node : ℕ) → IsNode m.grid node → is_leaf_block m.grid (block_at m.grid node) ≡ true
+      → (a : Axis) (i j k : ℕ) → IsPlace m.grid.shape.n 0 (array_on group a) i j k
+      → number (array_on group a) node (pos i) (pos j) (pos k) ≡ interior_value m group a (block_at m.grid node) i j k
+
+-- ---- at all places, guard places included
+
+-- the block index of a place, counted from the first guard place
+abbrev pub from_guard : ℕ → ℕ → ℤ
+from_guard guards i = pos i -ℤ pos guards
+
+-- the coordinate on an axis of that place, where the block is the b-th
+abbrev pub coordinate : Shape → ℕ → ℕ → ℤ
+coordinate s b i = guard_index s.n s.g b i
+
+-- the guard value at the place (i, j, k) of an array of the block b, counted from the first guard place
+abbrev pub guard_value : Mesh → Group → Axis → BlockAt → ℕ → ℕ → ℕ → ℤ
+guard_value m (Cell v) a b i j k =
+    cell_guard m.grid (m.cells v) b.level (coordinate m.grid.shape b.x i) (coordinate m.grid.shape b.y j) (coordinate m.grid.shape b.z k)
+guard_value m Face a b i j k =
+    face_guard m.grid m.faces a b.level (coordinate m.grid.shape b.x i) (coordinate m.grid.shape b.y j) (coordinate m.grid.shape b.z k)
+guard_value m Edge a b i j k =
+    edge_guard m.grid m.edges a b.level (coordinate m.grid.shape b.x i) (coordinate m.grid.shape b.y j) (coordinate m.grid.shape b.z k)
+
+-- at each place of a node's arrays of the group there is a number
+pub record HasWhole (is_there : Var → ℕ → ℤ → ℤ → ℤ → Type 0) (g : Grid) (group : Group) (node : ℕ) : Type 0 where
+  pub each : (a : Axis) (i j k : ℕ) → IsPlace g.shape.n g.shape.g (array_on group a) i j k
+      → is_there (array_on group a) node (from_guard g.shape.g i) (from_guard g.shape.g j) (from_guard g.shape.g k)
+
+-- these numbers are the guard values
+pub record HasGuardValues (number : Var → ℕ → ℤ → ℤ → ℤ → ℤ) (m : Mesh) (group : Group) (node : ℕ) : Type 0 where
+  pub each : (a : Axis) (i j k : ℕ) → IsPlace m.grid.shape.n m.grid.shape.g (array_on group a) i j k
+      → number (array_on group a) node (from_guard m.grid.shape.g i) (from_guard m.grid.shape.g j) (from_guard m.grid.shape.g k)
+      ≡ guard_value m group a (block_at m.grid node) i j k

@@ -1,0 +1,17 @@
+pub mod Facts
+pub mod Members
+pub mod Leaves
+pub mod Next
+pub mod Numbers
+pub mod Cutting
+pub mod Equal
+pub mod Covering
+pub mod ByChildren
+pub mod Flags
+pub mod Unmarked
+pub mod Counting
+pub mod Rooted
+pub mod Made
+pub mod Regrowing
+pub mod Taking
+pub mod Flat

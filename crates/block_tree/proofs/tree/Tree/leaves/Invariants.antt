@@ -1,0 +1,8 @@
+use Rattle.std.proofs.Common.{◌≡◌, length, filter, take}
+use Rattle.mesh_model.specs.Order.{nodes}
+use Rattle.mesh_model.specs.Plain.{is_leaf_block}
+use Rattle.block_tree.specs.GridOf.{grid_of}
+use Rattle.block_tree.proofs.tree.Tree.leaves.Given as goal
+
+abbrev pub invariant-loop-node : goal.invariant-loop-node
+invariant-loop-node l = l.count ≡ length (filter (is_leaf_block (grid_of l.self)) (take l.node (nodes (grid_of l.self).leaves)))

@@ -1,0 +1,17 @@
+//! The oct-tree of blocks: its nodes in Morton order, and marks on its leaves.
+//!
+//! A node is named by its number, which is its place among all nodes of the tree in Morton order, from 0, so that
+//! a parent stands before its children.
+#![tactic(auto)]
+
+mod blocks;
+mod marks;
+mod places;
+mod search;
+mod tree;
+
+pub use marks::Marks;
+pub use tree::{GrowStop, NodeKind, Tree};
+
+#[cfg(test)]
+mod tests;

@@ -1,0 +1,167 @@
+//! Trees that are worked by hand.
+
+ghost use Rattle.block_tree.specs.GridOf.{grid_of};
+ghost use Rattle.block_tree.specs.Numbered.{IsNode, block_at, flag_in};
+ghost use Rattle.mesh_model.specs.Order.{nodes};
+ghost use Rattle.mesh_model.specs.Plain.{is_leaf_block};
+ghost use Rattle.std.specs.Prelude.{◌≡◌, ℕ, IfOk, length, replicate, true};
+
+use super::*;
+use amr_num::{BlockAt, CellAt, OutOfMemory, SideKind};
+use mesh_model::Shape;
+use std::alloc::Global;
+
+/// So many flags, all up or all down.
+fn flags(alloc: Global, up: bool, count: usize) -> Result<Vec<bool>, OutOfMemory>
+    ensures { IfOk result (λ flags. flags.items ≡ replicate count up) }
+{
+    match vec![in alloc; up; count] {
+        Ok(flags) => Ok(flags),
+        Err(_) => Err(OutOfMemory),
+    }
+}
+
+/// Flags of a tree's nodes, up at its first `count` leaves.
+fn first_leaves(alloc: Global, tree: &Tree, count: u32) -> Result<Vec<bool>, OutOfMemory>
+    ensures size { IfOk result (λ flags. length flags.items ≡ length (nodes (grid_of tree.now).leaves)) }
+    ensures leaves { IfOk result (λ flags. (node : ℕ) → IsNode (grid_of tree.now) node → flag_in flags.items node ≡ true
+        → is_leaf_block (grid_of tree.now) (block_at (grid_of tree.now) node) ≡ true) }
+{
+    let mut flags = Vec::new(alloc);
+    let mut left = count;
+    for node in 0..tree.len() {
+        let up = tree.is_leaf(node) && left > 0;
+        if up {
+            left -= 1;
+        }
+        if flags.push(up).is_err() {
+            return Err(OutOfMemory);
+        }
+    }
+    Ok(flags)
+}
+
+#[test]
+fn too_many_nodes_are_counted(rt: HostRuntime) {
+    let alloc = rt.alloc();
+    let shape = Shape {
+        rx: 8,
+        ry: 8,
+        rz: 8,
+        n: 8,
+        g: 2,
+        min: 0,
+        max: 10,
+        sides: [SideKind::Periodic; 6],
+    };
+    let roots = Tree::roots(alloc, shape).expect(&rt, "memory");
+    assert_eq!(rt; roots.len(), 512);
+    let up = flags(alloc, true, 512).expect(&rt, "memory");
+    let down = flags(alloc, false, 512).expect(&rt, "memory");
+    let fine = roots.regrown(alloc, &up, &down).expect(&rt, "memory");
+    assert_eq!(rt; fine.len(), 4608);
+    assert_eq!(rt; fine.leaves(), 4096);
+    let down = flags(alloc, false, 4608).expect(&rt, "memory");
+    let few = first_leaves(alloc, &fine, 448).expect(&rt, "memory");
+    let tree = fine.regrown(alloc, &few, &down).expect(&rt, "memory");
+    assert_eq!(rt; tree.len(), 8192);
+    let more = first_leaves(alloc, &fine, 449).expect(&rt, "memory");
+    assert_eq!(rt;
+        fine.regrown(alloc, &more, &down).err(),
+        Some(GrowStop::Blocks(8200))
+    );
+}
+
+#[test]
+fn nodes_are_found(rt: HostRuntime) {
+    let alloc = rt.alloc();
+    let shape = Shape {
+        rx: 2,
+        ry: 1,
+        rz: 1,
+        n: 4,
+        g: 1,
+        min: 0,
+        max: 1,
+        sides: [SideKind::Outflow; 6],
+    };
+    let roots = Tree::roots(alloc, shape).expect(&rt, "memory");
+    assert_eq!(rt; roots.shape(), shape);
+    assert_eq!(rt; roots.len(), 2);
+    let tree = roots
+        .regrown(alloc, &[true, false], &[false, false])
+        .expect(&rt, "memory");
+    assert_eq!(rt; tree.len(), 10);
+    assert_eq!(rt; tree.leaves(), 9);
+    assert!(rt; !tree.is_leaf(0));
+    let up = [
+        true, false, false, false, false, false, false, false, false, false,
+    ];
+    let merged = tree.regrown(alloc, &[false; 10], &up).expect(&rt, "memory");
+    assert_eq!(rt; (merged.len(), merged.leaves()), (2, 2));
+    // node, level, x, y, z, parent, kind
+    let rows = [
+        (0, 0, 0, 0, 0, None, NodeKind::AboveLeaf),
+        (1, 1, 0, 0, 0, Some(0), NodeKind::Leaf),
+        (2, 1, 1, 0, 0, Some(0), NodeKind::Leaf),
+        (8, 1, 1, 1, 1, Some(0), NodeKind::Leaf),
+        (9, 0, 1, 0, 0, None, NodeKind::Leaf),
+    ];
+    for (node, level, x, y, z, parent, kind) in rows {
+        let b = BlockAt { level, x, y, z };
+        if node < tree.len() {
+            assert_eq!(rt; tree.at(node), b);
+            assert_eq!(rt; tree.parent(node), parent);
+            assert_eq!(rt; tree.kind(node), kind);
+        }
+        assert_eq!(rt; tree.node_at(b), Some(node));
+        assert_eq!(rt; tree.leaf_at(b).is_some(), kind == NodeKind::Leaf);
+    }
+    assert_eq!(rt; tree.child(0, 3), Some(4));
+    assert_eq!(rt; tree.child(9, 3), None);
+    // level and x of a cell, and the leaf in which it lies
+    let cells = [
+        (0, 0, None),
+        (0, 4, Some(9)),
+        (0, 8, None),
+        (1, 3, Some(1)),
+        (1, 4, Some(2)),
+        (1, 8, Some(9)),
+        (2, 9, Some(2)),
+        (40, 0, Some(1)),
+    ];
+    for (level, x, leaf) in cells {
+        let c = CellAt {
+            level,
+            x,
+            y: 0,
+            z: 0,
+        };
+        assert_eq!(rt; tree.covering(c), leaf);
+    }
+}
+
+#[test]
+fn marks_stand(rt: HostRuntime) {
+    let alloc = rt.alloc();
+    let shape = Shape {
+        rx: 2,
+        ry: 1,
+        rz: 1,
+        n: 4,
+        g: 4,
+        min: 0,
+        max: 1,
+        sides: [SideKind::Outflow; 6],
+    };
+    let tree = Tree::roots(alloc, shape).expect(&rt, "memory");
+    let mut marks = Marks::empty(alloc, &tree).expect(&rt, "memory");
+    assert_eq!(rt; tree.len(), 2);
+    assert!(rt; tree.is_leaf(1));
+    marks.put(&tree, 1, true, false);
+    assert!(rt; marks.refine(1));
+    assert!(rt; !marks.refine(0));
+    assert!(rt; !marks.derefine(1));
+    marks.reset(&tree);
+    assert!(rt; !marks.refine(1));
+}

@@ -1,0 +1,7 @@
+pub mod Flagged
+pub mod Sets
+pub mod Valued
+pub mod RefinedLevels
+pub mod MergedLevels
+pub mod AnyNumbers
+pub mod Plans

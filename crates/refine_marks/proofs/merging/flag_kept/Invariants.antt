@@ -1,0 +1,11 @@
+use Rattle.std.proofs.Common.{Bool}
+use Rattle.amr_num.specs.declared.BlockAt.{BlockAt}
+use Rattle.block_tree.specs.GridOf.{grid_of}
+use Rattle.block_tree.specs.Numbered.{block_at}
+use Rattle.refine_marks.specs.Closing.{stays_beside}
+use Rattle.refine_marks.specs.Flags.{AreFlagsOf}
+use Rattle.refine_marks.proofs.Flagged.{AreSetBelow}
+use Rattle.refine_marks.proofs.merging.flag_kept.Given as goal
+
+abbrev pub invariant-loop-node : goal.invariant-loop-node
+invariant-loop-node l = (set : BlockAt → Bool) → AreFlagsOf (grid_of l.tree) set l.merge → AreSetBelow l.node (λ k. stays_beside set (block_at (grid_of l.tree) k)) l.fn.stays l.stays
