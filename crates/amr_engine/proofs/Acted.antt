@@ -182,11 +182,17 @@ acts_changing (Err cause) m after command is taken faults e quiet changes =
     by : (cause : Cause) → Refuses cause m is → IsCause cause m is (record { before = taken; after = taken; faults = faults; new_faults = faults })
     by (causes.Range stop) refuses = (same_reason _ _ _ refuses.1 refuses.2, record { taken = refl; calm = refl })
     by (causes.Courant speeds) refuses = (same_reason _ _ _ refuses.1 refuses.2, record { taken = refl; calm = refl })
+    by (causes.Level stop) refuses = (same_reason _ _ _ refuses.1 refuses.2, record { taken = refl; calm = refl })
+    by (causes.PlaceBlock at) refuses = (same_reason _ _ _ refuses.1 refuses.2, record { taken = refl; calm = refl })
+    by (causes.Blocks count) refuses = (same_reason _ _ _ refuses.1 refuses.2, record { taken = refl; calm = refl })
     by causes.WriteFault refuses = absurd (let odd = refuses.2 in cc)
     by causes.OutOfMemory refuses = absurd (let odd = refuses.2 in cc)
     other : (cause : Cause) → Refuses cause m is → cause ≢ causes.OutOfMemory
     other (causes.Range stop) refuses h = cc
     other (causes.Courant speeds) refuses h = cc
+    other (causes.Level stop) refuses h = cc
+    other (causes.PlaceBlock at) refuses h = cc
+    other (causes.Blocks count) refuses h = cc
     other causes.WriteFault refuses h = cc
     other causes.OutOfMemory refuses h = let odd = refuses.2 in cc
 

@@ -12,6 +12,7 @@ pub mod Filled
 pub mod Vectors
 pub mod Shown
 pub mod Limits
+pub mod Marking
 pub mod Walked
 pub mod Advected
 pub mod Acted

@@ -4,5 +4,7 @@ pub mod Printing
 pub mod UniformMesh
 pub mod Plain
 pub mod Stopping
+pub mod Marking
+pub mod Growth
 pub mod Stepping
 pub mod Built

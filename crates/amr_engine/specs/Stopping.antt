@@ -3,7 +3,7 @@ use Rattle.std.specs.Prelude.{◌≡◌, ◌≢◌, ℕ, List, Option, Some, Non
 use Rattle.amr_engine.specs.declared.advection.Hindrance.{Hindrance}
 use Rattle.amr_engine.specs.declared.advection.Hindrance.TheVariants.{TooFast, Content, FlowedOut}
 use Rattle.amr_engine.specs.declared.engine.Cause.{Cause}
-use Rattle.amr_engine.specs.declared.engine.Cause.TheVariants.{Range, Courant, WriteFault, OutOfMemory}
+use Rattle.amr_engine.specs.declared.engine.Cause.TheVariants.{Range, Courant, Level, PlaceBlock, Blocks, WriteFault, OutOfMemory}
 use Rattle.mesh_model.specs.declared.script.Command.{Command}
 use Rattle.mesh_model.specs.declared.script.Group.TheVariants.{Cell}
 use Rattle.mesh_model.specs.declared.stops.Refusal.{Refusal}
@@ -18,6 +18,9 @@ use Rattle.outside_io.specs.Moved.{Rose, Takes, TakesPrefix}
 abbrev pub refusal_of : Cause → Option Refusal
 refusal_of (Range stop) = Some (refusals.Range stop)
 refusal_of (Courant speeds) = Some (refusals.Courant speeds)
+refusal_of (Level stop) = Some (refusals.Level stop)
+refusal_of (PlaceBlock at) = Some (refusals.PlaceBlock at)
+refusal_of (Blocks count) = Some (refusals.Blocks count)
 refusal_of WriteFault = None
 refusal_of OutOfMemory = None
 
@@ -47,6 +50,9 @@ pub record IsUntouched (w : Written) : Type 0 where
 abbrev pub IsCause : Cause → Mesh → Command → Written → Type 0
 IsCause (Range stop) m command w = (refusal m command ≡ Some (refusals.Range stop)) × IsUntouched w
 IsCause (Courant speeds) m command w = (refusal m command ≡ Some (refusals.Courant speeds)) × IsUntouched w
+IsCause (Level stop) m command w = (refusal m command ≡ Some (refusals.Level stop)) × IsUntouched w
+IsCause (PlaceBlock at) m command w = (refusal m command ≡ Some (refusals.PlaceBlock at)) × IsUntouched w
+IsCause (Blocks count) m command w = (refusal m command ≡ Some (refusals.Blocks count)) × IsUntouched w
 IsCause WriteFault m command w = (refusal m command ≡ None) × TakesPrefix w.before (text_of m command) w.after × Rose w.faults w.new_faults
 IsCause OutOfMemory m command w = IsUntouched w
 

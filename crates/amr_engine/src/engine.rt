@@ -2,10 +2,10 @@ use crate::advection::{Hindrance, try_step};
 use crate::contents::{fill_all, fill_box, total, zero_list, zero_outs, zeros};
 use crate::line_text::LineText;
 use crate::report::{print_cells, print_total};
-use amr_num::OutOfMemory;
+use amr_num::{BlockAt, OutOfMemory};
 use mesh_model::names::Names;
 use mesh_model::script::{Command, Declared, Group, Line};
-use mesh_model::stops::{RangeStop, Spot};
+use mesh_model::stops::{LevelStop, RangeStop, Refusal, Spot};
 use outside_io::Failed;
 use outside_io::disk::Disk;
 use outside_io::sink::Sink;
@@ -18,6 +18,12 @@ pub enum Cause {
     Range(RangeStop),
     /// Its speeds move more than one finest cell a step.
     Courant([i64; 3]),
+    /// It marks a leaf at the limit of levels.
+    Level(LevelStop),
+    /// It names no leaf.
+    PlaceBlock(BlockAt),
+    /// It would make more nodes than the limit: how many.
+    Blocks(u32),
     /// The sink failed.
     WriteFault,
     /// Memory was refused.
@@ -64,7 +70,21 @@ fn out_of_range(var: u32, spot: Spot, value: i128) -> Cause
 }
 
 impl Cause {
-    ghost use Rattle.amr_engine.specs.Stopping.{cause_told};
+    ghost use Rattle.amr_engine.specs.Stopping.{cause_told, refusal_of};
+
+    /// Why the mesh refuses the command. A fault of the sink and want of memory are no refusals.
+    pub fn refusal(self) -> Option<Refusal>
+        ensures { result ≡ refusal_of self }
+    {
+        match self {
+            Cause::Range(stop) => Some(Refusal::Range(stop)),
+            Cause::Courant(speeds) => Some(Refusal::Courant(speeds)),
+            Cause::Level(stop) => Some(Refusal::Level(stop)),
+            Cause::PlaceBlock(at) => Some(Refusal::PlaceBlock(at)),
+            Cause::Blocks(count) => Some(Refusal::Blocks(count)),
+            Cause::WriteFault | Cause::OutOfMemory => None,
+        }
+    }
 
     /// Why an advect of the variable at the speeds stops.
     fn of_advect(var: u32, speeds: [i64; 3], hindrance: Hindrance) -> Cause

@@ -5,6 +5,7 @@ mod advection;
 pub mod built;
 pub mod contents;
 pub mod engine;
+pub mod hierarchy;
 pub mod line_text;
 pub mod report;
 

@@ -1,0 +1,115 @@
+-- Marks on the leaves of a tree, and what a mesh with them has.
+use Rattle.std.proofs.Common.{◌≡◌, ◌≢◌, ℕ, ◌<◌, ◌≤◌, Bool, true, false, ◌||◌, nat_lt, nat_le, if◌then◌else◌, List, length, Option, Some, None, refl, sym, ap, ap₂, subst, ◌∙◌, arith, IsErr, inl, inr, ltb-true, lt-ltb}
+use Rattle.std.proofs.lemmas.Bool.{le-ltb, lt-leb, or_left}
+use Rattle.std.specs.Prelude.{◌↔◌}
+use Rattle.amr_num.specs.declared.BlockAt.{BlockAt}
+use Rattle.mesh_model.specs.declared.script.Command.TheVariants.{MarkDerefine, MarkRefine}
+use Rattle.mesh_model.specs.declared.stops.LevelStop.{LevelStop}
+use Rattle.mesh_model.specs.declared.stops.Refusal.{Refusal}
+use Rattle.mesh_model.specs.declared.stops.Refusal.TheVariants as refusals
+use Rattle.mesh_model.specs.Limits.{most_nodes}
+use Rattle.mesh_model.specs.Order.{nodes}
+use Rattle.mesh_model.specs.Plain.{Grid, Mesh, is_leaf_block}
+use Rattle.mesh_model.specs.Regrid.{new_grid, regrown}
+use Rattle.mesh_model.specs.Run.{mesh_after}
+use Rattle.mesh_model.specs.Setting.{is_same_block, mark_derefine, mark_refine}
+use Rattle.mesh_model.specs.Stops.{nodes_of, refusal}
+use Rattle.mesh_model.proofs.Tiling.{leaf_says, leaf_shows}
+use Rattle.block_tree.specs.declared.marks.Marks.{Marks}
+use Rattle.block_tree.specs.declared.tree.Tree.{Tree}
+use Rattle.block_tree.specs.GridOf.{grid_of}
+use Rattle.block_tree.specs.Growing.{grid_after}
+use Rattle.block_tree.specs.Marked.{IsMarksOf, derefine_of, refine_of}
+use Rattle.block_tree.specs.Numbered.{block_at}
+use Rattle.block_tree.proofs.Flags.{same_shows}
+use Rattle.refine_marks.specs.declared.plan.Plan.{Plan}
+use Rattle.refine_marks.specs.Flags.{AddsBlock, IsSameSet}
+use Rattle.refine_marks.specs.Planned.{HasMarks, merged_by, refined_by}
+use Rattle.amr_engine.specs.declared.engine.Cause.{Cause}
+use Rattle.amr_engine.specs.declared.engine.Cause.TheVariants as causes
+use Rattle.amr_engine.specs.Marking.{AreMarks}
+use Rattle.amr_engine.specs.Stopping.{Refuses}
+
+pub marks_are : (g : Grid) (marks : Marks) → AreMarks g marks → IsMarksOf g marks
+marks_are g marks are = record {
+  room = are.enough;
+  refine = λ b h. let told = are.refine b h in (leaf_says g b told.0, told.1);
+  derefine = λ b h. let told = are.derefine b h in (leaf_says g b told.0, told.1);
+}
+
+pub are_marks : (g : Grid) (marks : Marks) → IsMarksOf g marks → AreMarks g marks
+are_marks g marks are = record {
+  enough = are.room;
+  refine = λ b h. let told = are.refine b h in (leaf_shows g b told.0, told.1);
+  derefine = λ b h. let told = are.derefine b h in (leaf_shows g b told.0, told.1);
+}
+
+module _ (m : Mesh) (tree : Tree) (old : Marks) (at : BlockAt) (fits : HasMarks m tree old) where
+  leaf_in : (b : Bool) → is_leaf_block (grid_of tree) at ≡ b → is_leaf_block m.grid at ≡ b
+  leaf_in b h = ap (λ g. is_leaf_block g at) fits.grid ∙ h
+
+  -- no leaf is named
+  pub no_leaf_refine : is_leaf_block (grid_of tree) at ≡ false → Refuses (causes.PlaceBlock at) m (MarkRefine at)
+  unfolding refusal
+  no_leaf_refine h = (refusals.PlaceBlock at, rw (leaf_in false h) refl, refl)
+
+  pub no_leaf_derefine : is_leaf_block (grid_of tree) at ≡ false → Refuses (causes.PlaceBlock at) m (MarkDerefine at)
+  unfolding refusal
+  no_leaf_derefine h = (refusals.PlaceBlock at, rw (leaf_in false h) refl, refl)
+
+  module _ (leaf : is_leaf_block (grid_of tree) at ≡ true) where
+    -- the level is at its limit
+    pub too_fine : (stop : LevelStop) → at.level ≡ (grid_of tree).shape.max → stop ≡ record { level = at.level; limit = (grid_of tree).shape.max } → Refuses (causes.Level stop) m (MarkRefine at)
+    unfolding refusal
+    too_fine stop deep is =
+        let most : m.grid.shape.max ≡ (grid_of tree).shape.max = ap (λ g. g.shape.max) fits.grid in
+        let not_below : nat_lt at.level m.grid.shape.max ≡ false = le-ltb at.level m.grid.shape.max (omega (arith, most, deep)) in
+        (refusals.Level (record { level = at.level; limit = m.grid.shape.max }), rw (leaf_in true leaf, not_below) refl, ap (λ s. Some (refusals.Level s)) (is ∙ ap (λ n. record { level = at.level; limit = n }) (sym most)))
+
+    pub too_coarse : (stop : LevelStop) → at.level ≤ (grid_of tree).shape.min → stop ≡ record { level = at.level; limit = (grid_of tree).shape.min } → Refuses (causes.Level stop) m (MarkDerefine at)
+    unfolding refusal
+    too_coarse stop high is =
+        let least : m.grid.shape.min ≡ (grid_of tree).shape.min = ap (λ g. g.shape.min) fits.grid in
+        let not_above : nat_lt m.grid.shape.min at.level ≡ false = le-ltb m.grid.shape.min at.level (omega (arith, least, high)) in
+        (refusals.Level (record { level = at.level; limit = m.grid.shape.min }), rw (leaf_in true leaf, not_above) refl, ap (λ s. Some (refusals.Level s)) (is ∙ ap (λ n. record { level = at.level; limit = n }) (sym least)))
+
+    -- the mark is set
+    module _ (new : Marks) (marks : IsMarksOf (grid_of tree) new) where
+      pub refine_set : AddsBlock at (refine_of (grid_of tree) old) (refine_of (grid_of tree) new) → IsSameSet (derefine_of (grid_of tree) old) (derefine_of (grid_of tree) new) →
+          (refusal m (MarkRefine at) ≡ None) × HasMarks (mesh_after m (MarkRefine at)) tree new
+      unfolding refusal mark_refine
+      refine_set adds same =
+          let set : refine_of (grid_of tree) new at ≡ true = adds at ∙ or_left (is_same_block at at) (refine_of (grid_of tree) old at) (same_shows at at refl) in
+          let below : nat_lt at.level m.grid.shape.max ≡ true = lt-ltb at.level m.grid.shape.max (let most = ap (λ g. g.shape.max) fits.grid in let low = (marks.refine at set).1 in omega (arith, most, low)) in
+          (rw (leaf_in true leaf, below) refl, record {
+            grid = fits.grid;
+            refine = λ b. ap (λ t. is_same_block b at || t) (fits.refine b) ∙ sym (adds b);
+            derefine = λ b. fits.derefine b ∙ sym (same b);
+          })
+
+      pub derefine_set : AddsBlock at (derefine_of (grid_of tree) old) (derefine_of (grid_of tree) new) → IsSameSet (refine_of (grid_of tree) old) (refine_of (grid_of tree) new) →
+          (refusal m (MarkDerefine at) ≡ None) × HasMarks (mesh_after m (MarkDerefine at)) tree new
+      unfolding refusal mark_derefine
+      derefine_set adds same =
+          let set : derefine_of (grid_of tree) new at ≡ true = adds at ∙ or_left (is_same_block at at) (derefine_of (grid_of tree) old at) (same_shows at at refl) in
+          let above : nat_lt m.grid.shape.min at.level ≡ true = lt-ltb m.grid.shape.min at.level (let least = ap (λ g. g.shape.min) fits.grid in let high = (marks.derefine at set).1 in omega (arith, least, high)) in
+          (rw (leaf_in true leaf, above) refl, record {
+            grid = fits.grid;
+            refine = λ b. fits.refine b ∙ sym (same b);
+            derefine = λ b. ap (λ t. is_same_block b at || t) (fits.derefine b) ∙ sym (adds b);
+          })
+
+-- ---- regrid
+
+pub grid_is : (m : Mesh) (tree : Tree) (marks : Marks) (plan : Plan) (refine merge : List Bool) → HasMarks m tree marks → new_grid m ≡ regrown m.grid (refined_by m.grid plan) (merged_by m.grid plan) →
+    refine ≡ plan.refine.items → merge ≡ plan.merge.items → new_grid m ≡ grid_after (grid_of tree) refine merge
+grid_is m tree marks plan refine merge fits new refine_is merge_is =
+    new ∙ ap (λ g. regrown g (refined_by g plan) (merged_by g plan)) fits.grid ∙ ap₂ (grid_after (grid_of tree)) (sym refine_is) (sym merge_is)
+
+-- there would be too many nodes
+pub too_many : (m : Mesh) (g : Grid) (count : ℕ) → new_grid m ≡ g → (count ≡ length (nodes g.leaves)) × (most_nodes g.shape < count) → nodes_of m ≡ Some (refusals.Blocks count)
+too_many m g count is told =
+    let many : length (nodes (new_grid m).leaves) ≡ count = ap (λ h. length (nodes h.leaves)) is ∙ sym told.0 in
+    let same : most_nodes m.grid.shape ≡ most_nodes g.shape = ap (λ h. most_nodes h.shape) is in
+    let over : nat_le (length (nodes (new_grid m).leaves)) (most_nodes m.grid.shape) ≡ false = lt-leb (length (nodes (new_grid m).leaves)) (most_nodes m.grid.shape) (let more = told.1 in omega (arith, many, same, more)) in
+    rw over (ap (λ n. Some (refusals.Blocks n)) many)

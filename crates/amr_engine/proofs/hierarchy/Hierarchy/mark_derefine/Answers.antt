@@ -1,0 +1,31 @@
+use Rattle.std.proofs.Common.{◌≡◌, ◌≤◌, true, subst, sym, ap, ◌∙◌, refl}
+use Rattle.block_tree.specs.GridOf.{grid_of}
+use Rattle.block_tree.specs.Marked.{derefine_of, refine_of}
+use Rattle.refine_marks.specs.Flags.{AddsBlock}
+use Rattle.refine_marks.specs.Planned.{HasMarks}
+use Rattle.amr_engine.proofs.Marking.{are_marks, marks_are, no_leaf_derefine, derefine_set, too_coarse}
+use Rattle.amr_engine.proofs.hierarchy.Hierarchy.mark_derefine.Goals as goal
+
+pub returns-in-None : goal.returns-in-None
+returns-in-None c m fits = (no_leaf_derefine m c.args.self.now.tree c.args.self.now.marks c.args.at fits c.in-None.ensures, fits)
+
+pub set_derefine-requires-clause-marks : goal.set_derefine-requires-clause-marks
+set_derefine-requires-clause-marks c = marks_are (grid_of c.args.self.now.tree) c.args.self.now.marks c.args.self.now.marked
+
+pub returns-in-Ok : goal.returns-in-Ok
+returns-in-Ok c m fits =
+    let self = c.args.self.now in
+    let node = c.in-Some.ensures.1 in
+    let adds = subst (λ b. AddsBlock b (derefine_of (grid_of self.tree) self.marks) (derefine_of (grid_of self.tree) c.set_derefine.new.self)) node.block c.in-Ok.ensures.derefine in
+    derefine_set m self.tree self.marks c.args.at fits c.in-Some.ensures.0 c.set_derefine.new.self c.in-Ok.ensures.marks adds c.in-Ok.ensures.refine
+
+pub returns-in-Err : goal.returns-in-Err
+returns-in-Err c m fits =
+    let self = c.args.self.now in
+    let node = c.in-Some.ensures.1 in
+    let limit = c.in-Err.ensures.refused.0 refl in
+    let stop = c.in-Err.ensures.stop in
+    (
+      too_coarse m self.tree self.marks c.args.at fits c.in-Some.ensures.0 c.in-Err.stop (subst (λ l. l ≤ (grid_of self.tree).shape.min) (ap (λ b. b.level) node.block) limit) (stop ∙ ap (λ b. record { level = b.level; limit = (grid_of self.tree).shape.min }) node.block),
+      subst (λ marks. HasMarks m self.tree marks) (sym c.in-Err.ensures.unchanged) fits,
+    )
