@@ -7,7 +7,7 @@ use Rattle.std.specs.Prelude.{unsigned_abs}
 use Rattle.amr_num.specs.Numbers.{Within}
 use Rattle.amr_num.specs.declared.CellAt.{CellAt}
 use Rattle.mesh_model.specs.declared.script.Command.{Command}
-use Rattle.mesh_model.specs.declared.script.Command.TheVariants.{Advect, FillAll, FillBox}
+use Rattle.mesh_model.specs.declared.script.Command.TheVariants.{Advect, FillAll, FillBox, Regrid}
 use Rattle.mesh_model.specs.declared.script.Declared.{Declared}
 use Rattle.mesh_model.specs.declared.stops.Refusal.{Refusal}
 use Rattle.mesh_model.specs.Advect.{advect}
@@ -29,7 +29,7 @@ use Rattle.amr_engine.specs.declared.engine.Cause.TheVariants as causes
 use Rattle.amr_engine.specs.Contents.{IsCell, IsUniform, KeepsLimits, cell_count, content_in}
 use Rattle.amr_engine.specs.Stepping.{IsStep, Tries, field}
 use Rattle.amr_engine.specs.Printing.{Prints}
-use Rattle.amr_engine.specs.Stopping.{Acts, Changes, IsCause, Refuses, Written, cause_told}
+use Rattle.amr_engine.specs.Stopping.{Acts, Changes, IsCause, Refuses, Regrows, Written, cause_told}
 use Rattle.amr_engine.specs.UniformMesh.{uniform_mesh}
 use Rattle.amr_engine.proofs.Advected.{content_refused, mesh_made, not_refused, out_after, out_refused, too_fast}
 use Rattle.amr_engine.proofs.Filled.{still_uniform}
@@ -175,7 +175,7 @@ pub acts_changing : (result : Result (Unit {0}) Cause) (m after : Mesh) (command
     Acts result m command after (record { before = taken; after = taken; faults = faults; new_faults = faults })
 acts_changing (Ok done) m after command is taken faults e quiet changes = acts_quietly m after command is taken faults e changes.0 quiet changes.1
 acts_changing (Err cause) m after command is taken faults e quiet changes =
-    subst (λ k. Acts (Err cause) m k after (record { before = taken; after = taken; faults = faults; new_faults = faults })) (sym e) (changes.1, by cause changes.0, other cause changes.0)
+    subst (λ k. Acts (Err cause) m k after (record { before = taken; after = taken; faults = faults; new_faults = faults })) (sym e) (changes.1, by cause changes.0, (λ memory. absurd (other cause changes.0 memory)))
   where
     same_reason : (a b : Refusal) (o : Option Refusal) → o ≡ Some b → Some a ≡ Some b → o ≡ Some a
     same_reason a b o h k = h ∙ sym k
@@ -201,3 +201,21 @@ pub acts_printing : (printed : Result (Unit {0}) Failed) (result : Result (Unit 
     Prints printed w.before (text_of m is) w.after w.faults w.new_faults → MatchResult printed (λ done. result ≡ Ok tt) (λ failed. result ≡ Err causes.WriteFault) → after ≡ m → Acts result m command after w
 acts_printing (Ok done) result m after command is w e none same prints told stays = subst (λ k. Acts result m k after w) (sym e) (subst (λ r. Acts r m is after w) (sym told) (none, stays ∙ sym same, prints.0, prints.1))
 acts_printing (Err failed) result m after command is w e none same prints told stays = subst (λ k. Acts result m k after w) (sym e) (subst (λ r. Acts r m is after w) (sym told) (stays, (none, prints.0, prints.1), (λ h. cc)))
+
+-- a regrid
+pub acts_regrowing : (result : Result (Unit {0}) Cause) (m after : Mesh) (command : Command) (taken : Option (List ℕ)) (faults : ℕ) → command ≡ Regrid → Regrows result m after →
+    Acts result m command after (record { before = taken; after = taken; faults = faults; new_faults = faults })
+acts_regrowing (Ok done) m after command taken faults e told = acts_quietly m after command Regrid taken faults e told.0 refl told.1
+acts_regrowing (Err cause) m after command taken faults e told =
+    subst (λ k. Acts (Err cause) m k after (record { before = taken; after = taken; faults = faults; new_faults = faults })) (sym e) (told.1, by cause told.0, (λ memory. refl))
+  where
+    same_reason : (a b : Refusal) (o : Option Refusal) → o ≡ Some b → Some a ≡ Some b → o ≡ Some a
+    same_reason a b o h k = h ∙ sym k
+    by : (cause : Cause) → (cause ≢ causes.OutOfMemory → Refuses cause m Regrid) → IsCause cause m Regrid (record { before = taken; after = taken; faults = faults; new_faults = faults })
+    by (causes.Range stop) refuses = let r = refuses (λ h. cc) in (same_reason _ _ _ r.1 r.2, record { taken = refl; calm = refl })
+    by (causes.Courant speeds) refuses = let r = refuses (λ h. cc) in (same_reason _ _ _ r.1 r.2, record { taken = refl; calm = refl })
+    by (causes.Level stop) refuses = let r = refuses (λ h. cc) in (same_reason _ _ _ r.1 r.2, record { taken = refl; calm = refl })
+    by (causes.PlaceBlock at) refuses = let r = refuses (λ h. cc) in (same_reason _ _ _ r.1 r.2, record { taken = refl; calm = refl })
+    by (causes.Blocks count) refuses = let r = refuses (λ h. cc) in (same_reason _ _ _ r.1 r.2, record { taken = refl; calm = refl })
+    by causes.WriteFault refuses = absurd (let r = refuses (λ h. cc) in let odd = r.2 in cc)
+    by causes.OutOfMemory refuses = record { taken = refl; calm = refl }

@@ -15,4 +15,6 @@ pub mod Limits
 pub mod Marking
 pub mod Walked
 pub mod Advected
+pub mod Whole
+pub mod Lifted
 pub mod Acted

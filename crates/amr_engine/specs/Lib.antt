@@ -2,6 +2,7 @@ pub mod Contents
 pub mod LineWords
 pub mod Printing
 pub mod UniformMesh
+pub mod EngineMesh
 pub mod Plain
 pub mod Stopping
 pub mod Marking

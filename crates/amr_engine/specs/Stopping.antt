@@ -5,6 +5,7 @@ use Rattle.amr_engine.specs.declared.advection.Hindrance.TheVariants.{TooFast, C
 use Rattle.amr_engine.specs.declared.engine.Cause.{Cause}
 use Rattle.amr_engine.specs.declared.engine.Cause.TheVariants.{Range, Courant, Level, PlaceBlock, Blocks, WriteFault, OutOfMemory}
 use Rattle.mesh_model.specs.declared.script.Command.{Command}
+use Rattle.mesh_model.specs.declared.script.Command.TheVariants.{Regrid}
 use Rattle.mesh_model.specs.declared.script.Group.TheVariants.{Cell}
 use Rattle.mesh_model.specs.declared.stops.Refusal.{Refusal}
 use Rattle.mesh_model.specs.declared.stops.Refusal.TheVariants as refusals
@@ -33,6 +34,11 @@ abbrev pub Changes : Result (Unit {0}) Cause → Mesh → Command → Mesh → T
 Changes (Ok done) before command after = (refusal before command ≡ None) × (after ≡ mesh_after before command)
 Changes (Err cause) before command after = Refuses cause before command × (after ≡ before)
 
+-- a regrid: the same, but that it may also want memory, which leaves the mesh
+abbrev pub Regrows : Result (Unit {0}) Cause → Mesh → Mesh → Type 0
+Regrows (Ok done) before after = (refusal before Regrid ≡ None) × (after ≡ mesh_after before Regrid)
+Regrows (Err cause) before after = (cause ≢ OutOfMemory → Refuses cause before Regrid) × (after ≡ before)
+
 -- the sink before and after, by the bytes that it took and its faults
 pub record Written : Type 0 where
   pub before : Option (List ℕ)
@@ -59,7 +65,7 @@ IsCause OutOfMemory m command w = IsUntouched w
 -- what a command does: it is not refused, makes the mesh after it and prints its text; or it stops, and leaves the mesh
 abbrev pub Acts : Result (Unit {0}) Cause → Mesh → Command → Mesh → Written → Type 0
 Acts (Ok done) before command after w = (refusal before command ≡ None) × (after ≡ mesh_after before command) × Takes w.before (text_of before command) w.after × (w.new_faults ≡ w.faults)
-Acts (Err cause) before command after w = (after ≡ before) × IsCause cause before command w × (cause ≢ OutOfMemory)
+Acts (Err cause) before command after w = (after ≡ before) × IsCause cause before command w × (cause ≡ OutOfMemory → command ≡ Regrid)
 
 -- the cause that tells why an advect of a variable at these speeds is hindered
 abbrev pub cause_told : ℕ → List ℤ → Hindrance → Cause

@@ -1,7 +1,9 @@
 use crate::advection::{Hindrance, try_step};
 use crate::contents::{fill_all, fill_box, total, zero_list, zero_outs, zeros};
+use crate::hierarchy::Hierarchy;
 use crate::line_text::LineText;
 use crate::report::{print_cells, print_total};
+use amr_report::{print_mesh, print_size, print_tree};
 use amr_num::{BlockAt, OutOfMemory};
 use mesh_model::names::Names;
 use mesh_model::script::{Command, Declared, Group, Line};
@@ -37,11 +39,13 @@ pub struct Stop {
     pub cause: Cause,
 }
 
-/// A mesh of one level, on which the commands of a script are done: for each cell variable one list of contents, by
-/// coordinate, and what has flowed out of it.
+/// A mesh on which the commands of a script are done: its tree with the marks, and for each cell variable one list of
+/// contents on level 0, by coordinate, and what has flowed out of it. A mesh with variables stays on level 0.
 #[derive(Drop)]
 pub struct Engine {
+    alloc: Global,
     declared: Declared,
+    hierarchy: Hierarchy,
     contents: Vec<Vec<i64>>,
     outs: Vec<i128>,
     /// Room for what a step makes of a list of contents.
@@ -51,12 +55,17 @@ pub struct Engine {
     ghost limits: { KeepsLimits declared },
     ghost range: { InRange (uniform_mesh declared (map (λ list. list.items) contents.items) outs.items) },
     ghost room: { length next.items ≡ cell_count declared.shape },
+    ghost shaped: { (grid_of hierarchy.tree).shape ≡ declared.shape },
+    ghost at_roots: { 0 < length declared.names.cells → grid_of hierarchy.tree ≡ start_grid declared.shape },
 }
+
+ghost use Rattle.block_tree.specs.GridOf.{grid_of};
+ghost use Rattle.mesh_model.specs.Start.{start_grid};
 
 ghost use Rattle.amr_engine.specs.Contents.{IsUniform, KeepsLimits, cell_count};
 ghost use Rattle.amr_engine.specs.UniformMesh.{uniform_mesh};
 ghost use Rattle.mesh_model.specs.Valid.{InRange, ValidMesh};
-ghost use Rattle.std.specs.Prelude.{◌≡◌, ◌^◌, MatchResult, Ok, Err, length, map};
+ghost use Rattle.std.specs.Prelude.{◌≡◌, ◌<◌, ◌^◌, MatchResult, Ok, Err, length, map};
 
 /// The stop of a variable that would have a number out of range.
 fn out_of_range(var: u32, spot: Spot, value: i128) -> Cause
@@ -111,9 +120,9 @@ fn written(printed: Result<(), Failed>) -> Result<(), Cause>
 impl Engine {
     ghost use Rattle.amr_engine.specs.Built.{IsBuiltLine, is_built_command};
     ghost use Rattle.amr_engine.specs.Contents.{IsRow};
-    ghost use Rattle.amr_engine.specs.Plain.{declared_of, plain};
+    ghost use Rattle.amr_engine.specs.Plain.{declared_of, plain, values_of};
     ghost use Rattle.amr_engine.specs.Printing.{Prints};
-    ghost use Rattle.amr_engine.specs.Stopping.{Acts, Changes, IsCause};
+    ghost use Rattle.amr_engine.specs.Stopping.{Acts, Changes, IsCause, Regrows};
     ghost use Rattle.mesh_model.specs.Commands.{AreThree, IsBox, IsCellVariable, IsCommandOf, IsGroup, IsLeafNumber, IsLineOf};
     ghost use Rattle.mesh_model.specs.Fill.{fill_all as plain_fill_all, fill_box as plain_fill_box};
     ghost use Rattle.mesh_model.specs.Limits.{IsShape};
@@ -122,7 +131,7 @@ impl Engine {
     ghost use Rattle.mesh_model.specs.Stops.{refusal};
     ghost use Rattle.mesh_model.specs.Texts.{total_text, variable_text};
     ghost use Rattle.outside_io.specs.Moved.{Takes};
-    ghost use Rattle.std.specs.Prelude.{◌≢◌, ◌≤◌, true, IfErr, IfOk, None, OnErr, OnOk};
+    ghost use Rattle.std.specs.Prelude.{◌≤◌, true, IfErr, IfOk, None, OnErr, OnOk};
 
     /// The start mesh of what was declared: all contents 0.
     pub fn new(alloc: Global, declared: Declared) -> Result<Engine, OutOfMemory>
@@ -138,8 +147,11 @@ impl Engine {
         let outs = zero_outs(alloc, variables)?;
         let next = zero_list(alloc, &declared.shape)?;
         let line = LineText::new(alloc)?;
+        let hierarchy = Hierarchy::new(alloc, declared.shape)?;
         Ok(Engine {
+            alloc,
             declared,
+            hierarchy,
             contents,
             outs,
             next,
@@ -162,7 +174,7 @@ impl Engine {
         disk: &mut D,
     ) -> Result<(), Stop>
         requires fits { IsLineOf (declared_of self.old) line.now }
-        requires built { IsBuiltLine line.now }
+        requires built { IsBuiltLine (declared_of self.old) line.now }
         ensures mesh { OnOk result (plain self.new ≡ mesh_after (plain self.old) line.now.command) }
         ensures text { OnOk result (Takes (K.taken sink.old) (text_of (plain self.old) line.now.command) (K.taken sink.new)) }
         ensures calm { OnOk result (K.faults sink.new ≡ K.faults sink.old) }
@@ -179,8 +191,8 @@ impl Engine {
         ensures positive { OnOk result (StaysPositive (plain self.old) line.now.command (plain self.new)) }
         ensures valid { ValidMesh (plain self.new) }
 
-        // These commands take no memory, and none calls the disk.
-        ensures memory { IfErr result (λ stop. stop.cause ≢ Cause.OutOfMemory) }
+        // Memory is wanting at a regrid alone, and no command calls the disk.
+        ensures memory { IfErr result (λ stop. stop.cause ≡ Cause.OutOfMemory → line.now.command ≡ Command.Regrid) }
         ensures disk { disk.new ≡ disk.old }
         ensures declared { declared_of self.new ≡ declared_of self.old }
     {
@@ -196,7 +208,7 @@ impl Engine {
     /// Does a command.
     fn act<K: Sink>(&mut self, command: Command, sink: &mut K) -> Result<(), Cause>
         requires fits { IsCommandOf (declared_of self.old) command }
-        requires built { is_built_command command ≡ true }
+        requires built { is_built_command (declared_of self.old) command ≡ true }
         ensures acts { Acts result (plain self.old) command (plain self.new) (record { before = K.taken sink.old; after = K.taken sink.new; faults = K.faults sink.old; new_faults = K.faults sink.new }) }
         ensures declared { declared_of self.new ≡ declared_of self.old }
     {
@@ -215,19 +227,51 @@ impl Engine {
                 self.fill_box(var, level, low, high, value);
                 Ok(())
             }
+            Command::MarkRefine { at } => self.mark_refine(at),
+            Command::MarkDerefine { at } => self.mark_derefine(at),
+            Command::Regrid => self.regrid(),
             Command::Advect { var, speeds } => self.advect(var, speeds),
+            Command::PrintSize => written(print_size(sink, self.hierarchy.tree())),
+            Command::PrintMesh => written(print_mesh(sink, self.hierarchy.tree())),
+            Command::PrintTree => written(print_tree(sink, self.hierarchy.tree())),
             Command::PrintVar { group } => written(self.print_variable(group, sink)),
             Command::Total { var } => written(self.print_total(var, sink)),
             _ => unreachable!(),
         }
     }
 
+    /// Marks a leaf to be refined.
+    fn mark_refine(&mut self, at: BlockAt) -> Result<(), Cause>
+        ensures changes { Changes result (plain self.old) (Command.MarkRefine at) (plain self.new) }
+        ensures declared { declared_of self.new ≡ declared_of self.old }
+    {
+        self.hierarchy.mark_refine(at)
+    }
+
+    /// Marks a leaf to be merged with its siblings.
+    fn mark_derefine(&mut self, at: BlockAt) -> Result<(), Cause>
+        ensures changes { Changes result (plain self.old) (Command.MarkDerefine at) (plain self.new) }
+        ensures declared { declared_of self.new ≡ declared_of self.old }
+    {
+        self.hierarchy.mark_derefine(at)
+    }
+
+    /// Refines and merges as the marks and the level rule ask, and takes the marks away, in a mesh without variables.
+    fn regrid(&mut self) -> Result<(), Cause>
+        requires bare { length (declared_of self.old).names.cells ≡ 0 }
+        ensures regrows { Regrows result (plain self.old) (plain self.new) }
+        ensures declared { declared_of self.new ≡ declared_of self.old }
+    {
+        self.hierarchy.regrid(self.alloc)
+    }
+
     /// Makes one step of the variable.
     fn advect(&mut self, var: u32, speeds: [i64; 3]) -> Result<(), Cause>
         requires variable { IsCellVariable (declared_of self.old).names var }
         requires speeds { AreThree (2 ^ 20) speeds }
-        ensures changes { Changes result (plain self.old) (Command.Advect var speeds) (plain self.new) }
+        ensures changes { Changes result (values_of self.old) (Command.Advect var speeds) (values_of self.new) }
         ensures declared { declared_of self.new ≡ declared_of self.old }
+        ensures hierarchy { self.new.hierarchy ≡ self.old.hierarchy }
     {
         let shape = &self.declared.shape;
         let contents = &self.contents[var as usize];
@@ -246,8 +290,9 @@ impl Engine {
     fn fill_all(&mut self, var: u32, value: i64)
         requires variable { IsCellVariable (declared_of self.old).names var }
         requires value { IsLeafNumber value }
-        ensures mesh { plain self.new ≡ plain_fill_all (plain self.old) var value }
+        ensures mesh { values_of self.new ≡ plain_fill_all (values_of self.old) var value }
         ensures declared { declared_of self.new ≡ declared_of self.old }
+        ensures hierarchy { self.new.hierarchy ≡ self.old.hierarchy }
     {
         let contents = &mut self.contents[var as usize];
         fill_all(contents, value);
@@ -258,8 +303,9 @@ impl Engine {
         requires variable { IsCellVariable (declared_of self.old).names var }
         requires place { IsBox (declared_of self.old).shape level low high }
         requires value { IsLeafNumber value }
-        ensures mesh { plain self.new ≡ plain_fill_box (plain self.old) var level low high value }
+        ensures mesh { values_of self.new ≡ plain_fill_box (values_of self.old) var level low high value }
         ensures declared { declared_of self.new ≡ declared_of self.old }
+        ensures hierarchy { self.new.hierarchy ≡ self.old.hierarchy }
     {
         let contents = &mut self.contents[var as usize];
         fill_box(&self.declared.shape, contents, level, low, high, value);
@@ -268,9 +314,10 @@ impl Engine {
     /// Prints the numbers of a variable.
     fn print_variable<K: Sink>(&mut self, group: Group, sink: &mut K) -> Result<(), Failed>
         requires { IsGroup (declared_of self.old).names group }
-        ensures printed { Prints result (K.taken sink.old) (variable_text (plain self.old) group) (K.taken sink.new) (K.faults sink.old) (K.faults sink.new) }
-        ensures mesh { plain self.new ≡ plain self.old }
+        ensures printed { Prints result (K.taken sink.old) (variable_text (values_of self.old) group) (K.taken sink.new) (K.faults sink.old) (K.faults sink.new) }
+        ensures mesh { values_of self.new ≡ values_of self.old }
         ensures declared { declared_of self.new ≡ declared_of self.old }
+        ensures hierarchy { self.new.hierarchy ≡ self.old.hierarchy }
     {
         match group {
             Group::Cell(var) => print_cells(
@@ -287,9 +334,10 @@ impl Engine {
     /// Prints the total of a cell variable.
     fn print_total<K: Sink>(&mut self, var: u32, sink: &mut K) -> Result<(), Failed>
         requires { IsCellVariable (declared_of self.old).names var }
-        ensures printed { Prints result (K.taken sink.old) (total_text (plain self.old) var) (K.taken sink.new) (K.faults sink.old) (K.faults sink.new) }
-        ensures mesh { plain self.new ≡ plain self.old }
+        ensures printed { Prints result (K.taken sink.old) (total_text (values_of self.old) var) (K.taken sink.new) (K.faults sink.old) (K.faults sink.new) }
+        ensures mesh { values_of self.new ≡ values_of self.old }
         ensures declared { declared_of self.new ≡ declared_of self.old }
+        ensures hierarchy { self.new.hierarchy ≡ self.old.hierarchy }
     {
         let total = total(&self.declared.shape, &self.contents[var as usize]);
         print_total(

@@ -1,6 +1,6 @@
 use Rattle.std.proofs.Common.{◌≡◌, length, sym, ap, subst, ◌∙◌, refl}
 use Rattle.mesh_model.specs.declared.script.Command.TheVariants.{Advect}
-use Rattle.amr_engine.specs.Plain.{plain}
+use Rattle.amr_engine.specs.Plain.{values_of}
 use Rattle.amr_engine.specs.Stopping.{Refuses}
 use Rattle.amr_engine.proofs.Acted.{allowed, hindered, is_step, kept_out_small, mesh_after_step, range_after, same_size, uniform_after}
 use Rattle.amr_engine.proofs.Vectors.{taken_over, whole_list}
@@ -33,6 +33,8 @@ invariant_of-self c =
       limits = self.limits;
       range = range_after self.declared self.contents.items self.outs.items c.args.var c.args.speeds c.index-contents.result.now c.deref.result.now c.index-out.result.now self.uniform self.limits self.range c.requires.variable c.index-contents.ensures c.deref.ensures.value c.index-out.ensures c.requires.speeds c.deref_mut.result.now next c.in-Ok.out c.in-Ok.ensures.tries c.copy_from_slice.new.self made;
       room = ap length over ∙ room;
+      shaped = self.shaped;
+      at_roots = self.at_roots;
     }
 
 pub returns-in-Ok-clause-changes : goal.returns-in-Ok-clause-changes
@@ -49,4 +51,4 @@ pub returns-in-Err-clause-changes : goal.returns-in-Err-clause-changes
 returns-in-Err-clause-changes c =
     let self = c.args.self.now in
     let refused = hindered self.declared self.contents.items self.outs.items c.args.var c.args.speeds c.index-contents.result.now c.deref.result.now c.index-out.result.now self.uniform self.limits self.range c.requires.variable c.index-contents.ensures c.deref.ensures.value c.index-out.ensures c.requires.speeds c.deref_mut.result.now c.try_step.new.next c.in-Err.hindrance c.in-Err.ensures.tries in
-    (subst (λ cause. Refuses cause (plain self) (Advect c.args.var c.args.speeds)) (sym c.of_advect.ensures) refused, refl)
+    (subst (λ cause. Refuses cause (values_of self) (Advect c.args.var c.args.speeds)) (sym c.of_advect.ensures) refused, refl)

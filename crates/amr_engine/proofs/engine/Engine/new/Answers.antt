@@ -3,12 +3,22 @@ use Rattle.std.proofs.lemmas.List.{length-replicate}
 use Rattle.mesh_model.specs.Valid.{InRange}
 use Rattle.amr_engine.specs.Contents.{IsUniform, cell_count}
 use Rattle.amr_engine.specs.UniformMesh.{uniform_mesh}
+use Rattle.block_tree.specs.Marked.{derefine_of, refine_of}
+use Rattle.amr_engine.specs.Growth.{grid_in}
+use Rattle.amr_engine.proofs.Whole.{at_roots_is, no_marks}
+use Rattle.amr_engine.proofs.Vectors.{contents_in}
 use Rattle.amr_engine.proofs.Filled.{zero_mesh}
 use Rattle.amr_engine.proofs.Limits.{limits_are, zero_range, zero_uniform}
 use Rattle.amr_engine.proofs.engine.Engine.new.Goals as goal
 
 pub returns-clause-mesh : goal.returns-clause-mesh
-returns-clause-mesh c = ap₂ (uniform_mesh c.args.declared) c.in_ok-contents.ensures c.in_ok-outs.ensures ∙ zero_mesh c.args.declared c.cells-variables.result (cell_count c.args.declared.shape)
+returns-clause-mesh c =
+    let d = c.args.declared in
+    let h = c.in_ok-hierarchy.hierarchy in
+    let start = c.in_ok-hierarchy.ensures.start d.names in
+    at_roots_is d (grid_in h) (contents_in c.in_ok-contents.contents.items) c.in_ok-outs.outs.items (refine_of (grid_in h) h.marks) (derefine_of (grid_in h) h.marks) c.in_ok-hierarchy.ensures.grid
+    ∙ no_marks d (contents_in c.in_ok-contents.contents.items) c.in_ok-outs.outs.items _ _ (λ b. sym (start.refine b)) (λ b. sym (start.derefine b))
+    ∙ ap₂ (uniform_mesh d) c.in_ok-contents.ensures c.in_ok-outs.ensures ∙ zero_mesh d c.cells-variables.result (cell_count d.shape)
 
 pub invariant_of-result : goal.invariant_of-result
 invariant_of-result c =
@@ -22,4 +32,6 @@ invariant_of-result c =
       limits = limits_are d c.requires.shape c.requires.few;
       range = subst (λ lists. InRange (uniform_mesh d lists c.in_ok-outs.outs.items)) (sym c.in_ok-contents.ensures) (subst (λ outs. InRange (uniform_mesh d zeros outs)) (sym c.in_ok-outs.ensures) range);
       room = ap length c.in_ok-next.ensures ∙ length-replicate (cell_count d.shape) (pos 0);
+      shaped = ap (λ g. g.shape) c.in_ok-hierarchy.ensures.grid;
+      at_roots = λ some. c.in_ok-hierarchy.ensures.grid;
     }

@@ -3,7 +3,7 @@ use Rattle.std.specs.Prelude.{flat_map}
 use Rattle.mesh_model.specs.Commands.{IsGroup}
 use Rattle.mesh_model.specs.Start.{start_leaves}
 use Rattle.mesh_model.specs.Texts.{variable_text}
-use Rattle.amr_engine.specs.Plain.{plain}
+use Rattle.amr_engine.specs.Plain.{values_of}
 use Rattle.amr_engine.specs.Printing.{Prints, block_text}
 use Rattle.amr_engine.proofs.Shown.{variable_shown}
 use Rattle.amr_engine.proofs.Vectors.{contents_are, contents_in, name_at, whole_list}
@@ -23,5 +23,5 @@ returns-clause-printed g c =
     let leaves = start_leaves self.declared.shape in
     let name = name_at self.declared.names.cells c.in-Cell.var c.cell.result.now c.cell.ensures.name in
     let list = contents_are self.declared self.contents.items self.outs.items c.in-Cell.var c.index.result.now c.deref.result.now self.uniform declared c.index.ensures c.deref.ensures.value in
-    let text = ap (λ n. flat_map (block_text self.declared.shape n c.deref.result.now) leaves) name ∙ ap (λ xs. flat_map (block_text self.declared.shape (get_or self.declared.names.cells c.in-Cell.var []) xs) leaves) (sym list) ∙ sym (variable_shown self.declared (contents_in self.contents.items) self.outs.items c.in-Cell.var self.uniform.shape) ∙ ap (variable_text (plain self)) (sym c.in-Cell.is) in
+    let text = ap (λ n. flat_map (block_text self.declared.shape n c.deref.result.now) leaves) name ∙ ap (λ xs. flat_map (block_text self.declared.shape (get_or self.declared.names.cells c.in-Cell.var []) xs) leaves) (sym list) ∙ sym (variable_shown self.declared (contents_in self.contents.items) self.outs.items c.in-Cell.var self.uniform.shape) ∙ ap (variable_text (values_of self)) (sym c.in-Cell.is) in
     subst told text c.print_cells.ensures
