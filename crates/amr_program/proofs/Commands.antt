@@ -38,7 +38,7 @@ use Rattle.amr_program.specs.declared.refusal.Refusal.{Refusal}
 use Rattle.amr_program.specs.declared.refusal.Refusal.TheVariants as refusals
 use Rattle.amr_program.specs.Answer.{AlongRun, admitted, answer_of, done_in, ending, first_texts, read_in, script_in, status_of, stop_in}
 use Rattle.amr_program.specs.Lines.{memory_line, refusal_line}
-use Rattle.amr_program.specs.Outcome.{Came, Ended, RunStops, Wrote, WrotePart}
+use Rattle.amr_program.specs.Outcome.{Came, Ended, RunStops, Stopped, Wrote, WrotePart}
 use Rattle.mesh_model.specs.Run.{AtEachCommand, declared_in, done, first_mesh, mesh_after, mesh_of, stop, text_of, texts}
 
 -- ---- commands after others
@@ -137,6 +137,9 @@ pub run_stops : (cause : Cause) (m now : Mesh) (lines : List Line) (i number : �
     RunStops cause number m lines (record { before = a; after = c; faults = f; new_faults = h })
 run_stops (causes.Range range) m now lines i number d a b c f g h l number_is so_far before calm told = stopped_here m now lines i number d a b c f g h l number_is so_far before calm (why.Range range) told.0 told.1.taken told.1.calm
 run_stops (causes.Courant speeds) m now lines i number d a b c f g h l number_is so_far before calm told = stopped_here m now lines i number d a b c f g h l number_is so_far before calm (why.Courant speeds) told.0 told.1.taken told.1.calm
+run_stops (causes.Level stopped) m now lines i number d a b c f g h l number_is so_far before calm told = stopped_here m now lines i number d a b c f g h l number_is so_far before calm (why.Level stopped) told.0 told.1.taken told.1.calm
+run_stops (causes.PlaceBlock at) m now lines i number d a b c f g h l number_is so_far before calm told = stopped_here m now lines i number d a b c f g h l number_is so_far before calm (why.PlaceBlock at) told.0 told.1.taken told.1.calm
+run_stops (causes.Blocks count) m now lines i number d a b c f g h l number_is so_far before calm told = stopped_here m now lines i number d a b c f g h l number_is so_far before calm (why.Blocks count) told.0 told.1.taken told.1.calm
 run_stops causes.WriteFault m now lines i number d a b c f g h l number_is so_far before calm told =
     let line = get_or lines i d in
     let rest = drop (i + 1) lines in
@@ -248,6 +251,20 @@ came_refused s line reason result a b c f g h some wrote (inr e) = inr (inr (rec
   };
 }))
 
+-- how a run that stopped ends
+pub came_stopped : (s : PlainScript) (cause : Cause) (line : ℕ) (result : Status) (a b c : Option (List ℕ)) (f g h : ℕ) →
+    RunStops cause line (first_mesh s) s.lines (record { before = a; after = b; faults = f; new_faults = g }) → Stopped cause line s.declared.names result (record { before = b; after = c; faults = g; new_faults = h }) →
+    Came (Ok s) result (record { before = a; after = c; faults = f; new_faults = h })
+came_stopped s (causes.Range range) line result a b c f g h stops ends = came_refused s line (why.Range range) result a b c f g h stops.0 stops.1 ends
+came_stopped s (causes.Courant speeds) line result a b c f g h stops ends = came_refused s line (why.Courant speeds) result a b c f g h stops.0 stops.1 ends
+came_stopped s (causes.Level stopped) line result a b c f g h stops ends = came_refused s line (why.Level stopped) result a b c f g h stops.0 stops.1 ends
+came_stopped s (causes.PlaceBlock at) line result a b c f g h stops ends = came_refused s line (why.PlaceBlock at) result a b c f g h stops.0 stops.1 ends
+came_stopped s (causes.Blocks count) line result a b c f g h stops ends = came_refused s line (why.Blocks count) result a b c f g h stops.0 stops.1 ends
+came_stopped s causes.OutOfMemory line result a b c f g h stops ends = starved_after (Ok s) stops.0 result a b c f g h stops.1.takes stops.1.calm ends
+came_stopped s causes.WriteFault line result a b c f g h stops ends =
+    subst (λ r. Came (Ok s) r (record { before = a; after = c; faults = f; new_faults = h })) (sym ends.0)
+    (came_failed s (record { before = a; after = c; faults = f; new_faults = h }) (record { takes = subst (λ x. TakesPrefix a (texts (first_mesh s) (done_in s)) x) (sym ends.1.taken) stops.takes; rose = subst (λ n. Rose f n) (sym ends.1.calm) stops.rose }))
+
 -- ---- what a built script is
 
 both : (a b : Bool) → (a && b) ≡ true → (a ≡ true) × (b ≡ true)
@@ -258,13 +275,13 @@ pub built_mesh : (s : PlainScript) → is_built s 1 1 ≡ true → is_built_mesh
 unfolding is_built
 built_mesh s h = (both _ _ (both _ _ (both _ _ h).0).0).0
 
-pub built_lines : (s : PlainScript) → is_built s 1 1 ≡ true → All IsBuiltLine s.lines
+pub built_lines : (s : PlainScript) → is_built s 1 1 ≡ true → All (IsBuiltLine s.declared) s.lines
 unfolding is_built
 built_lines s h = each s.lines (both _ _ h).1
   where
-    each : (lines : List Line) → list_all (λ line. is_built_command line.command) lines ≡ true → All IsBuiltLine lines
-    each [] all = All-nil IsBuiltLine
-    each (line ∷ lines) all = All-cons IsBuiltLine line lines (both _ _ all).0 (each lines (both _ _ all).1)
+    each : (lines : List Line) → list_all (λ line. is_built_command s.declared line.command) lines ≡ true → All (IsBuiltLine s.declared) lines
+    each [] all = All-nil (IsBuiltLine s.declared)
+    each (line ∷ lines) all = All-cons (IsBuiltLine s.declared) line lines (both _ _ all).0 (each lines (both _ _ all).1)
 
 none_there : {A : Type 0} (o : Option A) → is_none o ≡ true → o ≡ None
 none_there None h = refl

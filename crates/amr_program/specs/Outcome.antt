@@ -2,19 +2,21 @@
 use Rattle.std.specs.Prelude.{◌≡◌, ◌≢◌, ℕ, List, [], ◌++◌, Option, Some, None, Result, ◌⊎◌, IfSome, take, drop}
 use Rattle.amr_engine.specs.declared.engine.Cause.{Cause}
 use Rattle.amr_engine.specs.declared.engine.Cause.TheVariants as causes
-use Rattle.amr_engine.specs.Stopping.{Written}
+use Rattle.amr_engine.specs.Stopping.{IsUntouched, Written, refusal_of}
 use Rattle.mesh_model.specs.declared.script.Line.{Line}
 use Rattle.mesh_model.specs.Commands.{PlainScript}
 use Rattle.mesh_model.specs.Grammar.{script_of}
 use Rattle.mesh_model.specs.Plain.{Mesh}
 use Rattle.mesh_model.specs.Run.{done, stop, texts}
-use Rattle.mesh_model.specs.declared.stops.Refusal.TheVariants as why
+use Rattle.mesh_model.specs.StopTexts.{stop_line}
+use Rattle.mesh_model.specs.VariableNames.{VariableNames}
+use Rattle.mesh_model.specs.declared.stops.Refusal as stops
 use Rattle.outside_io.specs.Moved.{Rose, Takes, TakesPrefix}
 use Rattle.amr_program.specs.declared.status.Status.{Status}
 use Rattle.amr_program.specs.declared.status.Status.TheVariants as status
 use Rattle.amr_program.specs.declared.program.TheConstants.{LIMIT}
 use Rattle.amr_program.specs.declared.refusal.Refusal.{Refusal}
-use Rattle.amr_program.specs.Answer.{Answer, admitted, answer_of, first_texts}
+use Rattle.amr_program.specs.Answer.{Answer, admitted, answer_of, first_texts, status_of}
 use Rattle.amr_program.specs.Lines.{memory_line, read_line, words_line}
 
 -- the text was written, without a fault
@@ -32,11 +34,32 @@ abbrev pub Ended : Status → List ℕ → Status → Written → Type 0
 Ended ends text result w = ((result ≡ ends) × Wrote text w) ⊎ ((result ≡ status.WriteFault) × WrotePart text w)
 
 -- how a run of commands stopped, at a line: the command there is refused; the sink failed; or memory was refused at a command
+abbrev pub RunRefused : Option stops.Refusal → Cause → ℕ → Mesh → List Line → Written → Type 0
+RunRefused (Some reason) cause line m lines w = (stop m lines ≡ Some (record { line = line; why = reason })) × Wrote (texts m (done m lines)) w
+RunRefused None causes.OutOfMemory line m lines w = (k : ℕ) × Wrote (texts m (take k (done m lines))) w
+RunRefused None causes.WriteFault line m lines w = WrotePart (texts m (done m lines)) w
+RunRefused None (causes.Range range) line m lines w = ⊥
+RunRefused None (causes.Courant speeds) line m lines w = ⊥
+RunRefused None (causes.Level stop) line m lines w = ⊥
+RunRefused None (causes.PlaceBlock at) line m lines w = ⊥
+RunRefused None (causes.Blocks count) line m lines w = ⊥
+
 abbrev pub RunStops : Cause → ℕ → Mesh → List Line → Written → Type 0
-RunStops (causes.Range range) line m lines w = (stop m lines ≡ Some (record { line = line; why = why.Range range })) × Wrote (texts m (done m lines)) w
-RunStops (causes.Courant speeds) line m lines w = (stop m lines ≡ Some (record { line = line; why = why.Courant speeds })) × Wrote (texts m (done m lines)) w
-RunStops causes.WriteFault line m lines w = WrotePart (texts m (done m lines)) w
-RunStops causes.OutOfMemory line m lines w = (k : ℕ) × Wrote (texts m (take k (done m lines))) w
+RunStops cause line m lines w = RunRefused (refusal_of cause) cause line m lines w
+
+-- what is written of a stop: the line of the refusal, the line that says that memory is wanting, or nothing after a fault of the sink
+abbrev pub StoppedBy : Option stops.Refusal → Cause → ℕ → VariableNames → Status → Written → Type 0
+StoppedBy (Some reason) cause line names result w = Ended (status_of reason) (stop_line names line reason) result w
+StoppedBy None causes.OutOfMemory line names result w = Ended status.OutOfMemory memory_line result w
+StoppedBy None causes.WriteFault line names result w = (result ≡ status.WriteFault) × IsUntouched w
+StoppedBy None (causes.Range range) line names result w = Unit {0}
+StoppedBy None (causes.Courant speeds) line names result w = Unit {0}
+StoppedBy None (causes.Level stop) line names result w = Unit {0}
+StoppedBy None (causes.PlaceBlock at) line names result w = Unit {0}
+StoppedBy None (causes.Blocks count) line names result w = Unit {0}
+
+abbrev pub Stopped : Cause → ℕ → VariableNames → Status → Written → Type 0
+Stopped cause line names result w = StoppedBy (refusal_of cause) cause line names result w
 
 -- the answer came, with all of its text
 pub record Answered (read : Result PlainScript Refusal) (result : Status) (w : Written) : Type 0 where

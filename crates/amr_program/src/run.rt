@@ -1,7 +1,7 @@
 ghost use Rattle.amr_engine.specs.Plain.{declared_of, plain};
 ghost use Rattle.amr_program.specs.Answer.{admitted, status_of};
 ghost use Rattle.amr_program.specs.Lines.{memory_line, read_line, refusal_line, words_line};
-ghost use Rattle.amr_program.specs.Outcome.{Came, Ended, RunStops, Wrote};
+ghost use Rattle.amr_program.specs.Outcome.{Came, Ended, RunStops, Stopped, Wrote};
 ghost use Rattle.amr_engine.specs.Built.{IsBuiltLine, is_built};
 ghost use Rattle.mesh_model.specs.Commands.{InLimits, IsLineOf, plain_script};
 ghost use Rattle.mesh_model.specs.Grammar.{script_of};
@@ -63,7 +63,7 @@ fn run<K: Sink, D: Disk>(
     disk: &mut D,
 ) -> Result<(), Stop>
     requires fit { All (IsLineOf (declared_of engine.old)) lines.now }
-    requires built { All IsBuiltLine lines.now }
+    requires built { All (IsBuiltLine (declared_of engine.old)) lines.now }
     ensures text { OnOk result (Wrote (texts (plain engine.old) (done (plain engine.old) lines.now)) (record { before = K.taken sink.old; after = K.taken sink.new; faults = K.faults sink.old; new_faults = K.faults sink.new })) }
     ensures whole { OnOk result (stop (plain engine.old) lines.now ≡ None) }
     ensures stops { IfErr result (λ stopped. RunStops stopped.cause stopped.line (plain engine.old) lines.now (record { before = K.taken sink.old; after = K.taken sink.new; faults = K.faults sink.old; new_faults = K.faults sink.new })) }
@@ -90,6 +90,19 @@ fn end_refused<K: Sink>(
     end_with(sink, text.as_bytes(), Status::of_refusal(why))
 }
 
+/// Ends a run that is stopped.
+fn end_stopped<K: Sink>(engine: &Engine, text: &mut LineText, stop: Stop, sink: &mut K) -> Status
+    ensures { Stopped stop.cause stop.line (declared_of engine.now).names result (record { before = K.taken sink.old; after = K.taken sink.new; faults = K.faults sink.old; new_faults = K.faults sink.new }) }
+{
+    match stop.cause.refusal() {
+        Some(why) => end_refused(sink, text, engine.names(), stop.line, why),
+        None => match stop.cause {
+            Cause::OutOfMemory => end(sink, MEMORY_LINE, Status::OutOfMemory),
+            _ => Status::WriteFault,
+        },
+    }
+}
+
 /// Runs a script from the start mesh.
 fn run_script<K: Sink, D: Disk>(alloc: Global, script: Script, sink: &mut K, disk: &mut D) -> Status
     requires limits { InLimits script.declared }
@@ -110,18 +123,7 @@ fn run_script<K: Sink, D: Disk>(alloc: Global, script: Script, sink: &mut K, dis
     };
     match run(&mut engine, &lines, sink, disk) {
         Ok(()) => Status::Done,
-        Err(stop) => match stop.cause {
-            Cause::Range(range) => {
-                let why = stops::Refusal::Range(range);
-                end_refused(sink, &mut text, engine.names(), stop.line, why)
-            }
-            Cause::Courant(speeds) => {
-                let why = stops::Refusal::Courant(speeds);
-                end_refused(sink, &mut text, engine.names(), stop.line, why)
-            }
-            Cause::WriteFault => Status::WriteFault,
-            Cause::OutOfMemory => end(sink, MEMORY_LINE, Status::OutOfMemory),
-        },
+        Err(stop) => end_stopped(&engine, &mut text, stop, sink),
     }
 }
 
