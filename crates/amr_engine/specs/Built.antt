@@ -1,5 +1,5 @@
 -- What is built: scripts that ask for anything else are not run.
-use Rattle.std.specs.Prelude.{◌≡◌, ℕ, Bool, true, false, ◌&&◌, ◌==◌, nat_le, is_none}
+use Rattle.std.specs.Prelude.{◌≡◌, ℕ, Bool, true, false, ◌&&◌, nat_le, is_none}
 use Rattle.std.specs.List.{list_all}
 use Rattle.mesh_model.specs.declared.script.Command.{Command}
 use Rattle.mesh_model.specs.declared.script.Command.TheVariants.{FillAll, FillBox, FaceSet, EdgeSet, Uniform, MarkRefine, MarkDerefine, RefineWhere, DerefineWhere, Regrid, Advect, Curl, Induct, Checkpoint, PrintSize, PrintMesh, PrintTree, PrintRanks, PrintTrace, PrintVar, PrintGuards, Total, NetFlux}
@@ -33,9 +33,9 @@ is_built_command (PrintGuards group at) = false
 is_built_command (Total var) = true
 is_built_command NetFlux = false
 
--- one root on y and on z, and neither a face nor an edge variable
+-- neither a face nor an edge variable
 unfoldable pub is_built_mesh : Declared → Bool
-is_built_mesh d = (d.shape.ry == 1) && (d.shape.rz == 1) && is_none d.names.face && is_none d.names.edge
+is_built_mesh d = is_none d.names.face && is_none d.names.edge
 
 -- the script is built for so many ranks and workers: it declares what is built, for one rank and one worker, and all its commands are
 unfoldable pub is_built : PlainScript → ℕ → ℕ → Bool

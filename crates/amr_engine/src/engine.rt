@@ -1,8 +1,9 @@
 use crate::advection::{Hindrance, try_step};
 use crate::contents::{fill_all, fill_box, total, zero_list, zero_outs, zeros};
-use crate::line_text::LineText;
-use crate::report::{print_cells, print_total};
+use crate::values::CellValues;
 use amr_num::OutOfMemory;
+use amr_report::{print_total, print_var};
+use block_tree::Tree;
 use mesh_model::names::Names;
 use mesh_model::script::{Command, Declared, Group, Line};
 use mesh_model::stops::{RangeStop, Spot};
@@ -36,19 +37,22 @@ pub struct Stop {
 #[derive(Drop)]
 pub struct Engine {
     declared: Declared,
+    tree: Tree,
     contents: Vec<Vec<i64>>,
     outs: Vec<i128>,
     /// Room for what a step makes of a list of contents.
     next: Vec<i64>,
-    line: LineText,
     ghost uniform: { IsUniform declared (map (λ list. list.items) contents.items) outs.items },
     ghost limits: { KeepsLimits declared },
     ghost range: { InRange (uniform_mesh declared (map (λ list. list.items) contents.items) outs.items) },
     ghost room: { length next.items ≡ cell_count declared.shape },
+    ghost roots: { grid_of tree ≡ start_grid declared.shape },
 }
 
 ghost use Rattle.amr_engine.specs.Contents.{IsUniform, KeepsLimits, cell_count};
 ghost use Rattle.amr_engine.specs.UniformMesh.{uniform_mesh};
+ghost use Rattle.block_tree.specs.GridOf.{grid_of};
+ghost use Rattle.mesh_model.specs.Start.{start_grid};
 ghost use Rattle.mesh_model.specs.Valid.{InRange, ValidMesh};
 ghost use Rattle.std.specs.Prelude.{◌≡◌, ◌^◌, MatchResult, Ok, Err, length, map};
 
@@ -90,9 +94,9 @@ fn written(printed: Result<(), Failed>) -> Result<(), Cause>
 
 impl Engine {
     ghost use Rattle.amr_engine.specs.Built.{IsBuiltLine, is_built_command};
-    ghost use Rattle.amr_engine.specs.Contents.{IsRow};
+    ghost use Rattle.amr_engine.specs.Contents.{IsRoots};
     ghost use Rattle.amr_engine.specs.Plain.{declared_of, plain};
-    ghost use Rattle.amr_engine.specs.Printing.{Prints};
+    ghost use Rattle.amr_report.specs.Printing.{Prints};
     ghost use Rattle.amr_engine.specs.Stopping.{Acts, Changes, IsCause};
     ghost use Rattle.mesh_model.specs.Commands.{AreThree, IsBox, IsCellVariable, IsCommandOf, IsGroup, IsLeafNumber, IsLineOf};
     ghost use Rattle.mesh_model.specs.Fill.{fill_all as plain_fill_all, fill_box as plain_fill_box};
@@ -106,7 +110,7 @@ impl Engine {
 
     /// The start mesh of what was declared: all contents 0.
     pub fn new(alloc: Global, declared: Declared) -> Result<Engine, OutOfMemory>
-        requires row { IsRow declared.shape }
+        requires roots { IsRoots declared.shape }
         requires shape { IsShape declared.shape }
         requires groups { (declared.names.face ≡ None) × (declared.names.edge ≡ None) }
         requires few { length declared.names.cells ≤ 4 }
@@ -117,13 +121,13 @@ impl Engine {
         let contents = zeros(alloc, &declared.shape, variables)?;
         let outs = zero_outs(alloc, variables)?;
         let next = zero_list(alloc, &declared.shape)?;
-        let line = LineText::new(alloc)?;
+        let tree = Tree::roots(alloc, declared.shape)?;
         Ok(Engine {
             declared,
+            tree,
             contents,
             outs,
             next,
-            line,
         })
     }
 
@@ -212,7 +216,7 @@ impl Engine {
         let shape = &self.declared.shape;
         let contents = &self.contents[var as usize];
         let out = self.outs[var as usize];
-        match try_step(shape, contents, out, speeds, &mut self.next) {
+        match try_step(shape, &self.tree, contents, out, speeds, &mut self.next) {
             Ok(out) => {
                 self.contents[var as usize].copy_from_slice(&self.next);
                 self.outs[var as usize] = out;
@@ -253,13 +257,20 @@ impl Engine {
         ensures declared { declared_of self.new ≡ declared_of self.old }
     {
         match group {
-            Group::Cell(var) => print_cells(
-                sink,
-                &mut self.line,
-                &self.declared.shape,
-                self.declared.names.cell(var),
-                &self.contents[var as usize],
-            ),
+            Group::Cell(var) => {
+                let values = CellValues {
+                    shape: &self.declared.shape,
+                    tree: &self.tree,
+                    contents: &self.contents[var as usize],
+                };
+                print_var(
+                    sink,
+                    &self.tree,
+                    self.declared.names.cell(var),
+                    group,
+                    &values,
+                )
+            }
             Group::Face | Group::Edge => unreachable!(),
         }
     }
@@ -271,10 +282,13 @@ impl Engine {
         ensures mesh { plain self.new ≡ plain self.old }
         ensures declared { declared_of self.new ≡ declared_of self.old }
     {
-        let total = total(&self.declared.shape, &self.contents[var as usize]);
+        let total = total(
+            &self.declared.shape,
+            &self.tree,
+            &self.contents[var as usize],
+        );
         print_total(
             sink,
-            &mut self.line,
             self.declared.names.cell(var),
             total,
             self.outs[var as usize],

@@ -1,4 +1,4 @@
-use Rattle.std.proofs.Common.{◌≡◌, ◌^◌, refl, ap, subst, ◌∙◌, arith}
+use Rattle.std.proofs.Common.{◌^◌, refl, ap, subst, ◌∙◌, arith}
 use Rattle.amr_num.proofs.Machine.{kept}
 use Rattle.mesh_model.specs.Commands.{IsCommandOf}
 use Rattle.mesh_model.specs.Fill.{fill_all, fill_box}

@@ -18,6 +18,7 @@ invariant_of-self c =
       limits = self.limits;
       range = subst InRange (sym mesh) (fill_all_range self.declared (contents_in self.contents.items) self.outs.items self.uniform self.limits self.range c.args.var c.args.value c.requires.variable c.requires.value);
       room = self.room;
+      roots = self.roots;
     }
 
 pub returns-clause-mesh : goal.returns-clause-mesh
