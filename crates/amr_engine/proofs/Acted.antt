@@ -1,7 +1,7 @@
 -- An advect of a variable, from what was read of an engine.
-use Rattle.std.proofs.Common.{◌≡◌, ◌≢◌, ℕ, ◌+◌, ◌^◌, ◌<◌, ◌≤◌, Bool, true, false, List, [], ◌++◌, Option, None, Some, Result, MatchResult, append-nil, Ok, Err, length, set, get_or, take, drop, map, ℤ, pos, ◌+ℤ◌, ◌-ℤ◌, refl, sym, ap, ap₂, subst, ◌∙◌, arith, inl, inr, Vec, Global}
+use Rattle.std.proofs.Common.{◌≡◌, ◌≢◌, ℕ, ◌^◌, ◌<◌, false, List, [], Option, None, Some, Result, MatchResult, append-nil, Ok, Err, length, set, get_or, ℤ, pos, refl, sym, ap, ap₂, subst, ◌∙◌, arith, inl, inr, Vec, Global}
 use Rattle.std.proofs.Math.ListN.{length-set}
-use Rattle.std.proofs.lemmas.Bool.{cases_Bool, cases_lt, lt-ltb}
+use Rattle.std.proofs.lemmas.Bool.{cases_lt, lt-ltb}
 use Rattle.std.proofs.lemmas.List.{get_or_default, map-set}
 use Rattle.std.specs.Prelude.{unsigned_abs}
 use Rattle.amr_num.specs.Numbers.{Within}
@@ -27,8 +27,8 @@ use Rattle.amr_engine.specs.declared.advection.Hindrance.TheVariants.{TooFast, C
 use Rattle.amr_engine.specs.declared.engine.Cause.{Cause}
 use Rattle.amr_engine.specs.declared.engine.Cause.TheVariants as causes
 use Rattle.amr_engine.specs.Contents.{IsCell, IsUniform, KeepsLimits, cell_count, content_in}
-use Rattle.amr_engine.specs.Stepping.{IsStep, Tries, field}
-use Rattle.amr_engine.specs.Printing.{Prints}
+use Rattle.amr_engine.specs.Stepping.{IsStep, Tries}
+use Rattle.amr_report.specs.Printing.{Prints}
 use Rattle.amr_engine.specs.Stopping.{Acts, Changes, IsCause, Refuses, Regrows, Written, cause_told}
 use Rattle.amr_engine.specs.UniformMesh.{uniform_mesh}
 use Rattle.amr_engine.proofs.Advected.{content_refused, mesh_made, not_refused, out_after, out_refused, too_fast}
@@ -61,7 +61,7 @@ module _ (d : Declared) (lists : List (Vec ℤ Global)) (outs : List ℤ) (var :
   content_small c cell = subst (λ z. Within (2 ^ 40) z) (field_at d.shape (get_or (contents_in lists) var []) c uniform.shape cell ∙ ap (λ xs. content_in d.shape xs c) list_is) (range.cells var c)
 
   pub is_step : IsStep d.shape now speeds
-  is_step = record { row = uniform.shape; limits = shape_is d limits; whole = whole_list d lists outs var list now uniform there here now_is; small = content_small; speeds = fast }
+  is_step = record { roots = uniform.shape; limits = shape_is d limits; whole = whole_list d lists outs var list now uniform there here now_is; small = content_small; speeds = fast }
 
   out_small : Within (2 ^ 100) out
   unfolding uniform_mesh
@@ -179,6 +179,7 @@ acts_changing (Err cause) m after command is taken faults e quiet changes =
   where
     same_reason : (a b : Refusal) (o : Option Refusal) → o ≡ Some b → Some a ≡ Some b → o ≡ Some a
     same_reason a b o h k = h ∙ sym k
+
     by : (cause : Cause) → Refuses cause m is → IsCause cause m is (record { before = taken; after = taken; faults = faults; new_faults = faults })
     by (causes.Range stop) refuses = (same_reason _ _ _ refuses.1 refuses.2, record { taken = refl; calm = refl })
     by (causes.Courant speeds) refuses = (same_reason _ _ _ refuses.1 refuses.2, record { taken = refl; calm = refl })
@@ -187,6 +188,7 @@ acts_changing (Err cause) m after command is taken faults e quiet changes =
     by (causes.Blocks count) refuses = (same_reason _ _ _ refuses.1 refuses.2, record { taken = refl; calm = refl })
     by causes.WriteFault refuses = absurd (let odd = refuses.2 in cc)
     by causes.OutOfMemory refuses = absurd (let odd = refuses.2 in cc)
+
     other : (cause : Cause) → Refuses cause m is → cause ≢ causes.OutOfMemory
     other (causes.Range stop) refuses h = cc
     other (causes.Courant speeds) refuses h = cc

@@ -1,30 +1,27 @@
 -- What a step makes of the mesh of level 0, and why it is refused.
-use Rattle.std.proofs.Common.{◌≡◌, ◌≢◌, ◌⊎◌, ℕ, ◌+◌, ◌^◌, ◌<◌, ◌==◌, Bool, true, false, if◌then◌else◌, List, [], Option, Some, None, Result, Ok, Err, length, find, set, get_or, ℤ, pos, ◌+ℤ◌, ◌-ℤ◌, refl, sym, ap, ap₂, subst, ◌∙◌, arith, inl, inr, get_or-set_other, get_or-set_same, eq-eqb, ne_eqb}
+use Rattle.std.proofs.Common.{◌≡◌, ◌≢◌, ◌⊎◌, ℕ, ◌^◌, ◌<◌, ◌==◌, Bool, true, false, List, [], Some, None, Ok, Err, length, find, set, get_or, ℤ, pos, ◌+ℤ◌, ◌-ℤ◌, refl, sym, ap, ap₂, subst, ◌∙◌, arith, inl, inr, get_or-set_other, get_or-set_same, eq-eqb, ne_eqb}
 use Rattle.std.proofs.lemmas.Bool.{cases_Bool, cases_eq}
 use Rattle.std.proofs.lemmas.Int.{ints}
 use Rattle.std.specs.Option.{option_or, option_map}
-use Rattle.amr_num.specs.Numbers.{Within}
 use Rattle.amr_num.specs.declared.CellAt.{CellAt}
 use Rattle.mesh_model.specs.declared.Shape.{Shape}
 use Rattle.mesh_model.specs.declared.script.Command.TheVariants.{Advect}
 use Rattle.mesh_model.specs.declared.script.Declared.{Declared}
 use Rattle.mesh_model.specs.declared.script.Group.TheVariants.{Cell}
-use Rattle.mesh_model.specs.declared.stops.RangeStop.{RangeStop}
-use Rattle.mesh_model.specs.declared.stops.Refusal.{Refusal}
 use Rattle.mesh_model.specs.declared.stops.Refusal.TheVariants as refusals
 use Rattle.mesh_model.specs.declared.stops.Spot.TheVariants as spots
-use Rattle.mesh_model.specs.Advect.{Speeds, advect, outflow}
+use Rattle.mesh_model.specs.Advect.{advect}
 use Rattle.mesh_model.specs.Plain.{Mesh, is_leaf, on_cells}
 use Rattle.mesh_model.specs.RangeWalk.{cell_above, cells_walked, first_cell_above, first_excess, is_above, out_above, out_excess}
 use Rattle.mesh_model.specs.Setting.{three}
 use Rattle.mesh_model.specs.Start.{start_grid, start_leaves}
-use Rattle.mesh_model.specs.Stops.{keeps_courant, or_else, range_of, refusal}
+use Rattle.mesh_model.specs.Stops.{keeps_courant, range_of, refusal}
 use Rattle.mesh_model.specs.Totals.{block_sum, sum_over, total}
 use Rattle.mesh_model.specs.Valid.{ValidMesh}
 use Rattle.mesh_model.proofs.AdvectStops.{advect_excess}
 use Rattle.mesh_model.proofs.Conserving.{advect_conserves}
 use Rattle.amr_engine.specs.declared.advection.Above.{Above}
-use Rattle.amr_engine.specs.Contents.{IsCell, IsRow, IsUniform, content_in}
+use Rattle.amr_engine.specs.Contents.{IsUniform, content_in}
 use Rattle.amr_engine.specs.UniformMesh.{uniform_mesh}
 use Rattle.amr_engine.specs.Stepping.{FindsExcess, Steps, field, is_excess, stepped}
 use Rattle.amr_engine.proofs.Shown.{total_of_field}
@@ -154,11 +151,14 @@ module _ (d : Declared) (contents : List (List ℤ)) (outs : List ℤ) (var : �
       where
         in_contents : var < length contents
         in_contents = let e = uniform.each in omega (arith, e, there)
+
         in_outs : var < length outs
         in_outs = let e = uniform.flowed in omega (arith, e, there)
+
         cell_of : (v : ℕ) (c : CellAt) → (v ≡ var) ⊎ (v ≢ var) → on_cells (start_grid d.shape) (content_in d.shape (get_or (set contents var next) v [])) c ≡ after.cells v c
         cell_of v c (inl e) = ap (λ w. on_cells (start_grid d.shape) (content_in d.shape (get_or (set contents var next) w [])) c) e ∙ ap (λ xs. field d.shape xs c) (get_or-set_same contents var next [] in_contents) ∙ made c ∙ ap (λ w. after.cells w c) (sym e)
         cell_of v c (inr ne) = ap (λ xs. field d.shape xs c) (get_or-set_other contents var v next [] ne) ∙ sym (rw (ne_eqb v var ne) refl)
+
         out_of : (v : ℕ) → (v ≡ var) ⊎ (v ≢ var) → get_or (set outs var out) v (pos 0) ≡ after.outs v
         out_of v (inl e) = ap (λ w. get_or (set outs var out) w (pos 0)) e ∙ get_or-set_same outs var out (pos 0) in_outs ∙ is ∙ ap after.outs (sym e)
         out_of v (inr ne) = get_or-set_other outs var v out (pos 0) ne ∙ sym (rw (ne_eqb v var ne) refl)

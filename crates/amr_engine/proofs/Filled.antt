@@ -9,12 +9,12 @@ use Rattle.mesh_model.specs.declared.script.Declared.{Declared}
 use Rattle.mesh_model.specs.Fill.{with_cells}
 use Rattle.mesh_model.specs.Plain.{is_leaf, on_cells}
 use Rattle.mesh_model.specs.Start.{start_grid, start_mesh}
-use Rattle.amr_engine.specs.Contents.{IsFilledBelow, IsRow, IsUniform, cell_at, cell_count, content_in, place}
+use Rattle.amr_engine.specs.Contents.{IsFilledBelow, IsRoots, IsUniform, cell_at, cell_count, content_in, place}
 use Rattle.amr_engine.specs.UniformMesh.{uniform_mesh}
 use Rattle.amr_engine.proofs.Uniform.{cell_again, leaf_is_cell, place_inside}
 
 -- the contents after a fill, at each cell
-filled_at : (s : Shape) (row : IsRow s) (old new : List ℤ) (value : ℤ) (test : CellAt → Bool) → length old ≡ cell_count s → IsFilledBelow (length old) (λ p. test (cell_at s p)) value old new → (c : CellAt) → on_cells (start_grid s) (content_in s new) c ≡ on_cells (start_grid s) (λ d. if test d then value else on_cells (start_grid s) (content_in s old) d) c
+filled_at : (s : Shape) (row : IsRoots s) (old new : List ℤ) (value : ℤ) (test : CellAt → Bool) → length old ≡ cell_count s → IsFilledBelow (length old) (λ p. test (cell_at s p)) value old new → (c : CellAt) → on_cells (start_grid s) (content_in s new) c ≡ on_cells (start_grid s) (λ d. if test d then value else on_cells (start_grid s) (content_in s old) d) c
 filled_at s row old new value test whole filled c = elim (cases_Bool (is_leaf (start_grid s) c)) [
   | inl leaf ↦
       let cell = leaf_is_cell s c row leaf in

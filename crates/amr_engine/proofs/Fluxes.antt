@@ -1,61 +1,58 @@
 -- Fluxes on the mesh of level 0, by the contents on both sides.
-use Rattle.std.proofs.Common.{◌≡◌, ℕ, zero, suc, ◌+◌, ◌-◌, ◌*◌, ◌/◌, ◌%◌, ◌<◌, ◌≤◌, ◌==◌, Bool, true, false, not, ◌&&◌, ◌||◌, nat_lt, if◌then◌else◌, List, [], ◌∷◌, Option, Some, None, ℤ, pos, negsuc, ◌-ℤ◌, map, refl, sym, ap, ap₂, subst, ◌∙◌, arith, inl, inr, ne_eqb, eq-eqb}
-use Rattle.std.proofs.lemmas.Bool.{cases_Bool, cases_lt, cases_eq, and_left, le-ltb, lt-ltb, ltb-true}
-use Rattle.std.specs.List.{list_any, range_with_len}
+use Rattle.std.proofs.Common.{◌≡◌, ℕ, zero, suc, ◌-◌, ◌<◌, ◌==◌, Bool, true, false, ◌&&◌, ◌||◌, if◌then◌else◌, List, Option, Some, None, ℤ, pos, negsuc, ◌-ℤ◌, refl, sym, ap, ap₂, subst, ◌∙◌, arith, inl, inr, ne_eqb, eq-eqb}
+use Rattle.std.proofs.lemmas.Bool.{cases_lt, cases_eq, le-ltb, lt-ltb}
 use Rattle.amr_num.specs.Numbers.{carry}
 use Rattle.amr_num.specs.declared.Axis.{Axis}
 use Rattle.amr_num.specs.declared.Axis.TheVariants.{X, Y, Z}
-use Rattle.amr_num.specs.declared.BlockAt.{BlockAt}
 use Rattle.amr_num.specs.declared.CellAt.{CellAt}
 use Rattle.amr_num.specs.declared.FaceAt.{FaceAt}
 use Rattle.amr_num.specs.declared.SideKind.{SideKind}
 use Rattle.amr_num.specs.declared.SideKind.TheVariants.{Periodic, Outflow, Closed}
 use Rattle.mesh_model.specs.declared.Shape.{Shape}
-use Rattle.mesh_model.specs.Advect.{Speeds, above_or, advected, below_or, blown_from, donor, flux, is_closed_at, is_closed_kind, leaf_flux, on_closed_side, speed}
-use Rattle.mesh_model.specs.Circulation.{net_flux}
-use Rattle.mesh_model.specs.Coordinates.{after, extent, face_numbers, face_of, high_cell, is_periodic, is_periodic_kind, low_cell, on, side_index, side_kind, with, wrapped}
+use Rattle.mesh_model.specs.Advect.{above_or, below_or, blown_from, donor, is_closed_at, is_closed_kind, leaf_flux, speed}
+use Rattle.mesh_model.specs.Coordinates.{after, extent, face_of, high_cell, is_periodic, is_periodic_kind, low_cell, on, side_index, side_kind, with, wrapped}
 use Rattle.mesh_model.specs.Limits.{IsShape}
-use Rattle.mesh_model.specs.Plain.{Grid, block_of, holds, is_leaf, is_split, is_split_block, is_split_face, lies_in, on_cells}
+use Rattle.mesh_model.specs.Plain.{block_of, holds, is_split, is_split_face}
 use Rattle.mesh_model.specs.Setting.{three}
-use Rattle.mesh_model.specs.Start.{start_grid, start_leaves}
+use Rattle.mesh_model.specs.Start.{start_grid}
 use Rattle.mesh_model.specs.Views.{cell_view, face_down, view_at}
-use Rattle.mesh_model.proofs.Roots.{root_of_row, start_row}
+use Rattle.mesh_model.proofs.Tests.{refuted}
+use Rattle.mesh_model.proofs.Tiling.{split_says}
 use Rattle.step_advect.specs.Flux.{donor_of, flux_between}
-use Rattle.amr_engine.specs.Contents.{IsBlock, IsCell, IsRow, content_in}
-use Rattle.amr_engine.specs.Stepping.{IsStep, field, flux_in, net_in, stepped}
-use Rattle.amr_engine.proofs.Uniform.{cell_is_leaf, leaf_is_cell, leaf_of_cell}
+use Rattle.amr_engine.specs.Contents.{IsCell, IsRoots, content_in}
+use Rattle.amr_engine.specs.Stepping.{field, flux_in, net_in, stepped}
+use Rattle.amr_engine.proofs.Uniform.{leaf_is_block, leaf_of_cell}
 
 -- ---- nothing is split
 
-none_finer : (b : BlockAt) (a n : ℕ) → list_any (λ leaf. nat_lt b.level leaf.level && lies_in leaf b) (map root_of_row (range_with_len a n)) ≡ false
-none_finer b a zero = refl
-none_finer b a (suc n) = rw (le-ltb b.level 0 (omega arith)) (none_finer b (a + 1) n)
+pub none_split : (s : Shape) (c : CellAt) → IsRoots s → is_split (start_grid s) c ≡ false
+none_split s c roots = refuted _ (λ t.
+    let finer = split_says (start_grid s) (block_of s.n c) t in
+    let deep = finer.2 in
+    let root = (leaf_is_block s finer.0 finer.1).level in
+    absurd (omega (arith, deep, root)))
 
-pub none_split : (s : Shape) (c : CellAt) → IsRow s → is_split (start_grid s) c ≡ false
-unfolding is_split_block
-none_split s c row = ap (list_any (λ leaf. nat_lt (block_of s.n c).level leaf.level && lies_in leaf (block_of s.n c))) (start_row s row.y row.z row.some_roots row.few_roots) ∙ none_finer (block_of s.n c) 0 s.rx
+no_split_cell : (s : Shape) (o : Option CellAt) → IsRoots s → holds (is_split (start_grid s)) o ≡ false
+no_split_cell s None roots = refl
+no_split_cell s (Some c) roots = none_split s c roots
 
-no_split_cell : (s : Shape) (o : Option CellAt) → IsRow s → holds (is_split (start_grid s)) o ≡ false
-no_split_cell s None row = refl
-no_split_cell s (Some c) row = none_split s c row
-
-no_split_face : (s : Shape) (f : FaceAt) → IsRow s → is_split_face (start_grid s) f ≡ false
+no_split_face : (s : Shape) (f : FaceAt) → IsRoots s → is_split_face (start_grid s) f ≡ false
 unfolding is_split_face
-no_split_face s f row = rw (no_split_cell s (low_cell s f) row, no_split_cell s (high_cell s f) row) refl
+no_split_face s f roots = rw (no_split_cell s (low_cell s f) roots, no_split_cell s (high_cell s f) roots) refl
 
-at_false : {A : Type 0} (b : Bool) (x y : A) → b ≡ false → (elim b [ | true ↦ x | false ↦ y ]) ≡ y
+at_false : {A : Type 0} (b : Bool) (x y : A) → b ≡ false → (elim b [ true ↦ x | false ↦ y ]) ≡ y
 at_false true x y h = absurd (cc)
 at_false false x y h = refl
 
-own_number : (s : Shape) (k : FaceAt → ℤ) (d : ℕ) (f : FaceAt) → IsRow s → face_down (start_grid s) k d f ≡ k f
+own_number : (s : Shape) (k : FaceAt → ℤ) (d : ℕ) (f : FaceAt) → IsRoots s → face_down (start_grid s) k d f ≡ k f
 unfolding face_down
-own_number s k zero f row = refl
-own_number s k (suc d) f row = at_false (is_split_face (start_grid s) f) _ _ (no_split_face s f row)
+own_number s k zero f roots = refl
+own_number s k (suc d) f roots = at_false (is_split_face (start_grid s) f) _ _ (no_split_face s f roots)
 
-own_content : (s : Shape) (k : CellAt → ℤ) (l : ℕ) (c : CellAt) → IsRow s → l ≡ 0 → view_at (start_grid s) k l c ≡ k c
+own_content : (s : Shape) (k : CellAt → ℤ) (l : ℕ) (c : CellAt) → IsRoots s → l ≡ 0 → view_at (start_grid s) k l c ≡ k c
 unfolding view_at
-own_content s k zero c row e = at_false (is_split (start_grid s) c) _ _ (none_split s c row)
-own_content s k (suc l) c row e = absurd (cc)
+own_content s k zero c roots e = at_false (is_split (start_grid s) c) _ _ (none_split s c roots)
+own_content s k (suc l) c roots e = absurd (cc)
 
 -- ---- cells beside a cell
 
@@ -93,29 +90,29 @@ moved_cell s Z p c cell h = record { level = cell.level; x = cell.x; y = cell.y;
 -- ---- the flux through a face
 
 -- at a cell of the domain the mesh has the list's content
-pub field_at : (s : Shape) (contents : List ℤ) (c : CellAt) → IsRow s → IsCell s c → field s contents c ≡ content_in s contents c
-field_at s contents c row cell = rw (leaf_of_cell s c row cell) refl
+pub field_at : (s : Shape) (contents : List ℤ) (c : CellAt) → IsRoots s → IsCell s c → field s contents c ≡ content_in s contents c
+field_at s contents c roots cell = rw (leaf_of_cell s c roots cell) refl
 
-view_here : (s : Shape) (contents : List ℤ) (c : CellAt) → IsRow s → IsCell s c → cell_view (start_grid s) (field s contents) c ≡ content_in s contents c
-view_here s contents c row cell = own_content s (field s contents) c.level c row cell.level ∙ field_at s contents c row cell
+view_here : (s : Shape) (contents : List ℤ) (c : CellAt) → IsRoots s → IsCell s c → cell_view (start_grid s) (field s contents) c ≡ content_in s contents c
+view_here s contents c roots cell = own_content s (field s contents) c.level c roots cell.level ∙ field_at s contents c roots cell
 
 chosen : (closed : Bool) (v : ℤ) {u w : ℤ} → u ≡ w → (if closed then v else u) ≡ (if closed then v else w)
 chosen true v e = refl
 chosen false v e = e
 
 -- the flux through the face with position p on an axis at the numbers c, whose donors are low and high
-by_donors : (s : Shape) (contents speeds : List ℤ) (a : Axis) (c low high : CellAt) (closed : Bool) → IsRow s → c.level ≡ 0 → IsCell s low → IsCell s high →
+by_donors : (s : Shape) (contents speeds : List ℤ) (a : Axis) (c low high : CellAt) (closed : Bool) → IsRoots s → c.level ≡ 0 → IsCell s low → IsCell s high →
     ((n : ℕ) → blown_from s a (pos n) c ≡ low) → ((n : ℕ) → blown_from s a (negsuc n) c ≡ high) → is_closed_at s a c.level (on a c) ≡ closed →
     flux_in s contents speeds (face_of a c) ≡ flux_between 0 (speed (three speeds) a) (content_in s contents low) (content_in s contents high) closed
 unfolding flux_in flux_between
-by_donors s contents speeds a c low high closed row level is_low is_high blown_low blown_high is_closed =
-    own_number s (leaf_flux (start_grid s) (field s contents) (three speeds)) (10 - c.level) (face_of a c) row
+by_donors s contents speeds a c low high closed roots level is_low is_high blown_low blown_high is_closed =
+    own_number s (leaf_flux (start_grid s) (field s contents) (three speeds)) (10 - c.level) (face_of a c) roots
     ∙ ap (λ b. if b then pos 0 else carry (speed (three speeds) a) c.level (cell_view (start_grid s) (field s contents) (donor s (speed (three speeds) a) (face_of a c)))) is_closed
     ∙ chosen closed (pos 0) (ap (λ l. carry (speed (three speeds) a) l (cell_view (start_grid s) (field s contents) (donor s (speed (three speeds) a) (face_of a c)))) level ∙ ap (carry (speed (three speeds) a) 0) (by_speed (speed (three speeds) a)))
   where
     by_speed : (v : ℤ) → cell_view (start_grid s) (field s contents) (blown_from s a v c) ≡ donor_of v (content_in s contents low) (content_in s contents high)
-    by_speed (pos n) = ap (cell_view (start_grid s) (field s contents)) (blown_low n) ∙ view_here s contents low row is_low
-    by_speed (negsuc n) = ap (cell_view (start_grid s) (field s contents)) (blown_high n) ∙ view_here s contents high row is_high
+    by_speed (pos n) = ap (cell_view (start_grid s) (field s contents)) (blown_low n) ∙ view_here s contents low roots is_low
+    by_speed (negsuc n) = ap (cell_view (start_grid s) (field s contents)) (blown_high n) ∙ view_here s contents high roots is_high
 
 -- ---- positions on an axis
 
@@ -183,7 +180,7 @@ closed_here a b c h = rw h (or_nothing a)
 
 -- ---- the fluxes through both sides of a cell on an axis
 
-module _ (s : Shape) (contents speeds : List ℤ) (a : Axis) (c : CellAt) (row : IsRow s) (cell : IsCell s c) where
+module _ (s : Shape) (contents speeds : List ℤ) (a : Axis) (c : CellAt) (roots : IsRoots s) (cell : IsCell s c) where
   abbrev pub along : ℕ
   along = extent s a 0
 
@@ -203,7 +200,7 @@ module _ (s : Shape) (contents speeds : List ℤ) (a : Axis) (c : CellAt) (row :
   above_is_cell = moved_cell s a _ c cell (above_small periodic along (on a c) inside)
 
   pub low_flux : flux_in s contents speeds (face_of a c) ≡ flux_between 0 (speed (three speeds) a) (content_in s contents (with a (below_or periodic along (on a c)) c)) (content_in s contents c) ((on a c == 0) && is_closed_kind (side_kind s.sides (side_index a)))
-  low_flux = by_donors s contents speeds a c (with a (below_or periodic along (on a c)) c) c ((on a c == 0) && is_closed_kind (side_kind s.sides (side_index a))) row cell.level below_is_cell cell
+  low_flux = by_donors s contents speeds a c (with a (below_or periodic along (on a c)) c) c ((on a c == 0) && is_closed_kind (side_kind s.sides (side_index a))) roots cell.level below_is_cell cell
       (λ n. ap (λ e. with a (below_or periodic e (on a c)) c) level)
       (λ n. ap (λ e. with a (above_or periodic e (on a c)) c) level ∙ ap (λ p. with a p c) (above_own periodic along (on a c) inside) ∙ with_own a c)
       (closed_here ((on a c == 0) && is_closed_kind (side_kind s.sides (side_index a))) (is_closed_kind (side_kind s.sides (suc (side_index a)))) (on a c == extent s a c.level) (ne_eqb (on a c) (extent s a c.level) (λ e. omega (arith, below_extent s a c cell, e))))
@@ -221,12 +218,12 @@ module _ (s : Shape) (contents speeds : List ℤ) (a : Axis) (c : CellAt) (row :
   there_extent = ap (extent s a) there_level
 
   pub high_flux : IsShape s → flux_in s contents speeds (face_of a (after s a c)) ≡ flux_between 0 (speed (three speeds) a) (content_in s contents c) (content_in s contents (with a (above_or periodic along (suc (on a c))) c)) ((suc (on a c) == along) && is_closed_kind (side_kind s.sides (suc (side_index a))))
-  high_flux shape = ap (λ d. flux_in s contents speeds (face_of a d)) face_there ∙ by_donors s contents speeds a (with a position c) c (with a (above_or periodic along (suc (on a c))) c) ((suc (on a c) == along) && is_closed_kind (side_kind s.sides (suc (side_index a)))) row there_level cell above_is_cell
+  high_flux shape = ap (λ d. flux_in s contents speeds (face_of a d)) face_there ∙ by_donors s contents speeds a (with a position c) c (with a (above_or periodic along (suc (on a c))) c) ((suc (on a c) == along) && is_closed_kind (side_kind s.sides (suc (side_index a)))) roots there_level cell above_is_cell
       (λ n. with_twice a (below_or periodic (extent s a (with a position c).level) (on a (with a position c))) position c ∙ ap (λ p. with a p c) (ap₂ (below_or periodic) there_extent (on_with a position c) ∙ below_next periodic along (on a c) inside) ∙ with_own a c)
       (λ n. with_twice a (above_or periodic (extent s a (with a position c).level) (on a (with a position c))) position c ∙ ap (λ p. with a p c) (ap₂ (above_or periodic) there_extent (on_with a position c) ∙ above_next periodic along (on a c) inside))
       (ap₂ (λ p e. ((p == 0) && is_closed_kind (side_kind s.sides (side_index a))) || ((p == e) && is_closed_kind (side_kind s.sides (suc (side_index a))))) (on_with a position c) there_extent ∙ closed_next (side_kind s.sides (side_index a)) (side_kind s.sides (suc (side_index a))) along (on a c) (shape.both a))
 
 -- what a cell holds after the step: its content less its net outflow
-pub stepped_is : (s : Shape) (contents speeds : List ℤ) (c : CellAt) → IsRow s → IsCell s c → stepped s contents speeds c ≡ content_in s contents c -ℤ net_in s contents speeds c
+pub stepped_is : (s : Shape) (contents speeds : List ℤ) (c : CellAt) → IsRoots s → IsCell s c → stepped s contents speeds c ≡ content_in s contents c -ℤ net_in s contents speeds c
 unfolding stepped flux_in
-stepped_is s contents speeds c row cell = rw (leaf_of_cell s c row cell) refl
+stepped_is s contents speeds c roots cell = rw (leaf_of_cell s c roots cell) refl

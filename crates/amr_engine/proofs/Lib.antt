@@ -1,13 +1,12 @@
-pub mod Joined
 pub mod Places
 pub mod Ranges
-pub mod Printed
 pub mod Stepped
 pub mod Machine
 pub mod Fluxes
 pub mod Steps
 pub mod Rows
 pub mod Uniform
+pub mod Numbered
 pub mod Filled
 pub mod Vectors
 pub mod Shown

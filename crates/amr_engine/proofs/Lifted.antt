@@ -14,13 +14,10 @@ use Rattle.mesh_model.specs.Stops.{refusal}
 use Rattle.mesh_model.specs.Texts.{total_text, variable_text}
 use Rattle.mesh_model.specs.VariableNames.{VariableNames}
 use Rattle.block_tree.specs.GridOf.{grid_of}
-use Rattle.amr_report.specs.Printing as report
-use Rattle.outside_io.specs.declared.Failed.{Failed}
 use Rattle.amr_engine.specs.declared.engine.Cause.{Cause}
 use Rattle.amr_engine.specs.declared.engine.Engine.{Engine}
 use Rattle.amr_engine.specs.EngineMesh.{engine_mesh}
 use Rattle.amr_engine.specs.Plain.{contents_of, declared_of, derefine_now, grid_now, plain, refine_now, values_of}
-use Rattle.amr_engine.specs.Printing.{Prints}
 use Rattle.amr_engine.specs.Stopping.{Changes}
 use Rattle.amr_engine.specs.UniformMesh.{uniform_mesh}
 use Rattle.amr_engine.proofs.Whole.{at_roots_is, changes_lifted, mesh_in}
@@ -78,8 +75,3 @@ total_lifted e var some = sym (ap (λ m. total_text m var) (plain_is e some))
 pub fits_whole : (e : Engine) (command : Command) → IsCommandOf (declared_of e) command → IsCommandOf (declared_in (plain e)) command
 unfolding engine_mesh
 fits_whole e command fits = subst (λ d. IsCommandOf d command) (λ i. record { shape = sym e.shaped i; names = e.declared.names }) fits
-
--- reports tell the same
-pub reported : (r : Result (Unit {0}) Failed) (before after : Option (List ℕ)) (text : List ℕ) (faults new_faults : ℕ) → report.Prints r before text after faults new_faults → Prints r before text after faults new_faults
-reported (Ok done) before after text faults new_faults h = h
-reported (Err failed) before after text faults new_faults h = h

@@ -1,19 +1,18 @@
 -- A uniform mesh within the limits is valid.
-use Rattle.std.proofs.Common.{◌≡◌, ◌⊎◌, ℕ, suc, ◌*◌, ◌^◌, ◌<◌, ◌≤◌, ◌==◌, Bool, true, false, ◌||◌, List, [], length, None, get_or, replicate, zero, ℤ, pos, refl, sym, ap, subst, ◌∙◌, arith, inl, inr, eqb-true, eq-eqb}
+use Rattle.std.proofs.Common.{◌≡◌, ◌⊎◌, ℕ, ◌≤◌, ◌==◌, true, ◌||◌, List, [], length, None, get_or, replicate, ℤ, pos, refl, sym, ap, subst, ◌∙◌, arith, inl, inr, eqb-true, eq-eqb}
 use Rattle.std.proofs.Math.ListN.{get_or-eq_default}
 use Rattle.std.proofs.lemmas.List.{get_or-replicate, length-replicate}
 use Rattle.std.proofs.lemmas.Bool.{cases_Bool, or_cases, or_left, or_right}
-use Rattle.amr_num.specs.Numbers.{Within}
 use Rattle.amr_num.specs.declared.CellAt.{CellAt}
 use Rattle.mesh_model.specs.declared.Shape.{Shape}
 use Rattle.mesh_model.specs.declared.script.Declared.{Declared}
 use Rattle.mesh_model.specs.Limits.{IsShape}
 use Rattle.mesh_model.specs.Plain.{is_leaf, on_cells}
-use Rattle.mesh_model.specs.Start.{start_grid, start_mesh}
+use Rattle.mesh_model.specs.Start.{start_grid}
 use Rattle.mesh_model.specs.Valid.{InRange, ValidMesh}
 use Rattle.mesh_model.proofs.LeafSums.{off_leaf}
 use Rattle.mesh_model.proofs.Start.{start_mesh_valid}
-use Rattle.amr_engine.specs.Contents.{IsRow, IsUniform, KeepsLimits, cell_count, content_in, place}
+use Rattle.amr_engine.specs.Contents.{IsRoots, IsUniform, KeepsLimits, cell_count, content_in, place}
 use Rattle.amr_engine.specs.UniformMesh.{uniform_mesh}
 use Rattle.amr_engine.proofs.Filled.{zero_mesh}
 
@@ -89,7 +88,7 @@ valid_of d contents outs limits uniform range =
 -- ---- the mesh at the start
 
 -- lists of zeros
-pub zero_uniform : (d : Declared) (variables : ℕ) → IsRow d.shape → d.names.face ≡ None → d.names.edge ≡ None → variables ≡ length d.names.cells →
+pub zero_uniform : (d : Declared) (variables : ℕ) → IsRoots d.shape → d.names.face ≡ None → d.names.edge ≡ None → variables ≡ length d.names.cells →
     IsUniform d (replicate variables (replicate (cell_count d.shape) (pos 0))) (replicate variables (pos 0))
 zero_uniform d variables row face edge many = record {
   shape = row;

@@ -1,5 +1,5 @@
 -- Numbers as the machine keeps them.
-use Rattle.std.proofs.Common.{◌≡◌, ℕ, ◌+◌, ◌^◌, ◌<◌, Bool, true, false, ◌&&◌, ◌==◌, ℤ, ◌+ℤ◌, ◌-ℤ◌, arith, sym, ap, ap₂, subst, ◌∙◌, w64, to_z, of_z, eq-eqb, ne_eqb}
+use Rattle.std.proofs.Common.{◌≡◌, ℕ, ◌+◌, ◌^◌, ◌<◌, Bool, ◌&&◌, ◌==◌, ℤ, ◌+ℤ◌, ◌-ℤ◌, arith, sym, ap, ap₂, subst, ◌∙◌, w64, to_z, of_z, eq-eqb, ne_eqb}
 use Rattle.std.specs.Int.{w128}
 use Rattle.std.proofs.lemmas.Int.{fits_signed_from_abs, ints, to_z-of_z}
 use Rattle.amr_num.specs.Numbers.{Within}
@@ -58,13 +58,13 @@ sum_told a b c ha hb hc =
     ∙ wide (a +ℤ b +ℤ c) (2 ^ 43) (sum_of_three a b c ha hb hc) (omega arith)
 
 -- what flowed out, and what a total lost
-pub out_told : (out t u : ℤ) → Within (2 ^ 100) out → Within (2 ^ 75) t → Within (2 ^ 75) u → kept_128 (kept_128 (kept_128 out +ℤ kept_128 t) -ℤ kept_128 u) ≡ out +ℤ t -ℤ u
+pub out_told : (out t u : ℤ) → Within (2 ^ 100) out → Within (2 ^ 85) t → Within (2 ^ 85) u → kept_128 (kept_128 (kept_128 out +ℤ kept_128 t) -ℤ kept_128 u) ≡ out +ℤ t -ℤ u
 out_told out t u ho ht hu =
-    let sum = within_add (2 ^ 100) (2 ^ 75) out t ho ht in
+    let sum = within_add (2 ^ 100) (2 ^ 85) out t ho ht in
     let whole : Within (2 ^ 101) (out +ℤ t -ℤ u) = less (out +ℤ t) u (omega (arith, sum)) hu in
-    ap₂ (λ x y. kept_128 (kept_128 x -ℤ y)) (ap₂ (λ x y. x +ℤ y) (wide out (2 ^ 100) ho (omega arith)) (wide t (2 ^ 75) ht (omega arith))) (wide u (2 ^ 75) hu (omega arith))
-    ∙ ap (λ x. kept_128 (x -ℤ u)) (wide (out +ℤ t) (2 ^ 100 + 2 ^ 75) sum (omega arith))
+    ap₂ (λ x y. kept_128 (kept_128 x -ℤ y)) (ap₂ (λ x y. x +ℤ y) (wide out (2 ^ 100) ho (omega arith)) (wide t (2 ^ 85) ht (omega arith))) (wide u (2 ^ 85) hu (omega arith))
+    ∙ ap (λ x. kept_128 (x -ℤ u)) (wide (out +ℤ t) (2 ^ 100 + 2 ^ 85) sum (omega arith))
     ∙ wide (out +ℤ t -ℤ u) (2 ^ 101) whole (omega arith)
   where
-    less : (v u : ℤ) → Within (2 ^ 100 + 2 ^ 75) v → Within (2 ^ 75) u → Within (2 ^ 101) (v -ℤ u)
+    less : (v u : ℤ) → Within (2 ^ 100 + 2 ^ 85) v → Within (2 ^ 85) u → Within (2 ^ 101) (v -ℤ u)
     less v u hv hu = grind (arith, ints)

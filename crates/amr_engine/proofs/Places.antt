@@ -1,60 +1,54 @@
--- Where the cells of a row of roots stand in the list of contents.
-use Rattle.std.proofs.Common.{◌≡◌, ℕ, ◌+◌, ◌*◌, ◌<◌, ◌≤◌, sym, ap, ap₂, ◌∙◌, arith}
-use Rattle.std.proofs.Math.Nat.{mul-le-mul_left}
+-- Where the cells of the roots stand in the list of contents.
+use Rattle.std.proofs.Common.{◌≡◌, ℕ, ◌+◌, ◌*◌, ◌-◌, ◌<◌, ◌≤◌, arith}
 use Rattle.std.proofs.lemmas.Nat.{mul-le}
+use Rattle.amr_num.specs.declared.Axis.{Axis}
 use Rattle.amr_num.specs.declared.Axis.TheVariants.{X, Y, Z}
 use Rattle.amr_num.specs.declared.BlockAt.{BlockAt}
-use Rattle.amr_num.specs.declared.CellAt.{CellAt}
 use Rattle.mesh_model.specs.declared.Shape.{Shape}
-use Rattle.mesh_model.specs.Coordinates.{extent}
+use Rattle.mesh_model.specs.Coordinates.{extent, roots}
 use Rattle.mesh_model.specs.Texts.{in_block}
-use Rattle.amr_engine.specs.Contents.{IsBlock, IsRow, cell_count, place}
+use Rattle.amr_engine.specs.Contents.{IsBlock, IsCell, IsRoots, cell_count, place}
+use Rattle.amr_engine.proofs.Uniform.{cell_of_block, place_inside}
+use Rattle.amr_num.specs.declared.CellAt.{CellAt}
 
-pub along_x : (s : Shape) → extent s X 0 ≡ s.rx * s.n
-along_x s = omega arith
+-- there are 1 to 64 cells along each axis
+pub few_along : (s : Shape) (a : Axis) → IsRoots s → extent s a 0 ≤ 64
+few_along s a limits = let most = mul-le (roots s a) s.n 8 8 (limits.few a) limits.few_cells in omega (arith, most)
 
-pub along_y : (s : Shape) → IsRow s → extent s Y 0 ≡ s.n
-along_y s row = let e = row.y in ap (λ r. r * s.n * 1) e ∙ omega arith
+pub some_along : (s : Shape) (a : Axis) → IsRoots s → 0 < extent s a 0
+some_along s a limits = let least = mul-le 1 1 (roots s a) s.n (let some = limits.some a in omega (arith, some)) (let some = limits.some_cells in omega (arith, some)) in omega (arith, least)
 
-pub along_z : (s : Shape) → IsRow s → extent s Z 0 ≡ s.n
-along_z s row = let e = row.z in ap (λ r. r * s.n * 1) e ∙ omega arith
+few_on_plane : (s : Shape) → IsRoots s → extent s Y 0 * extent s Z 0 ≤ 4096
+few_on_plane s limits = mul-le (extent s Y 0) (extent s Z 0) 64 64 (few_along s Y limits) (few_along s Z limits)
 
-pub place_in_row : (s : Shape) (c : CellAt) → IsRow s → place s c ≡ c.x + s.rx * s.n * (c.y + s.n * c.z)
-unfolding place
-place_in_row s c row = ap₂ (λ ex ey. c.x + ex * (c.y + ey * c.z)) (along_x s) (along_y s row)
+-- the domain has few cells of level 0
+pub few_cells : (s : Shape) → IsRoots s → cell_count s ≤ 262144
+few_cells s limits = mul-le (extent s X 0) (extent s Y 0 * extent s Z 0) 64 4096 (few_along s X limits) (few_on_plane s limits)
 
-pub count_in_row : (s : Shape) → IsRow s → cell_count s ≡ s.rx * s.n * (s.n * s.n)
-count_in_row s row = ap₂ (λ ex e. ex * e) (along_x s) (ap₂ (λ ey ez. ey * ez) (along_y s row) (along_z s row))
+-- the coordinates of a cell of a root are small
+pub small_place : (s : Shape) (a : Axis) (q i : ℕ) → IsRoots s → q < roots s a → i < s.n → s.n * q + i < 72
+small_place s a q i limits hq hi =
+    let few = limits.few a in
+    let few_cells = limits.few_cells in
+    let most = mul-le s.n q 8 8 few_cells (omega (arith, few, hq)) in
+    omega (arith, most, hi, few_cells)
 
-row_fits : (r n b j k : ℕ) → b < r → j < n → k < n → (n * b + r * n * (j + n * k)) + n ≤ r * n * (n * n)
-row_fits r n b j k hb hj hk =
-    let first : n * (b + 1) ≤ n * r = mul-le-mul_left n (omega arith) in
-    let rows : n * (k + 1) ≤ n * n = mul-le-mul_left n (omega arith) in
-    let whole : r * n * (j + n * k + 1) ≤ r * n * (n * n) = mul-le-mul_left (r * n) (omega arith) in
-    omega arith
-
--- a row of a block stands within the list
-pub row_within : (s : Shape) (b : BlockAt) (j k : ℕ) → IsRow s → IsBlock s b → j < s.n → k < s.n → place s (record { level = 0; x = s.n * b.x; y = j; z = k }) + s.n ≤ cell_count s
-row_within s b j k row block hj hk =
-    let at = place_in_row s (record { level = 0; x = s.n * b.x; y = j; z = k }) row in
-    let count = count_in_row s row in
-    let fits = row_fits s.rx s.n b.x j k block.x hj hk in
-    omega (arith, at, count, fits)
-
--- a row of roots has few cells
-pub few_cells : (s : Shape) → IsRow s → cell_count s ≤ 4096
-few_cells s row =
-    let count = count_in_row s row in
-    let square : s.n * s.n ≤ 8 * 8 = mul-le s.n s.n 8 8 row.few_cells row.few_cells in
-    let line : s.rx * s.n ≤ 8 * 8 = mul-le s.rx s.n 8 8 row.few_roots row.few_cells in
-    let all : s.rx * s.n * (s.n * s.n) ≤ 64 * 64 = mul-le (s.rx * s.n) (s.n * s.n) 64 64 line square in
-    omega (arith, count, all)
+-- so many whole rows stand before a cell
+pub rows_before : (s : Shape) (c : CellAt) → IsRoots s → IsCell s c → c.y + extent s Y 0 * c.z < 4096 + 64
+rows_before s c limits cell =
+    let planes = mul-le (extent s Y 0) c.z 64 64 (few_along s Y limits) (let few = few_along s Z limits in omega (arith, few, cell.z)) in
+    let few = few_along s Y limits in
+    omega (arith, planes, few, cell.y)
 
 -- along a row of a block the places follow each other
-pub place_along : (s : Shape) (b : BlockAt) (i j k : ℕ) → IsRow s → IsBlock s b → place s (in_block s.n b i j k) ≡ place s (record { level = 0; x = s.n * b.x; y = j; z = k }) + i
-place_along s b i j k row block =
-    let here = place_in_row s (in_block s.n b i j k) row in
-    let first = place_in_row s (record { level = 0; x = s.n * b.x; y = j; z = k }) row in
-    let y : s.n * b.y + j ≡ j = ap (λ y. s.n * y + j) block.y ∙ omega arith in
-    let z : s.n * b.z + k ≡ k = ap (λ z. s.n * z + k) block.z ∙ omega arith in
-    here ∙ ap₂ (λ y z. (s.n * b.x + i) + s.rx * s.n * (y + s.n * z)) y z ∙ omega arith ∙ ap (λ p. p + i) (sym first)
+pub place_along : (s : Shape) (b : BlockAt) (i j k : ℕ) → place s (in_block s.n b i j k) ≡ place s (in_block s.n b 0 j k) + i
+unfolding place
+place_along s b i j k = omega arith
+
+-- a row of a block stands within the list
+pub row_within : (s : Shape) (b : BlockAt) (j k : ℕ) → IsRoots s → IsBlock s b → j < s.n → k < s.n → place s (in_block s.n b 0 j k) + s.n ≤ cell_count s
+row_within s b j k limits block hj hk =
+    let last = place_inside s (in_block s.n b (s.n - 1) j k) (cell_of_block s b (s.n - 1) j k block (let some = limits.some_cells in omega (arith, some)) hj hk) in
+    let along = place_along s b (s.n - 1) j k in
+    let some = limits.some_cells in
+    omega (arith, last, along, some)

@@ -1,22 +1,14 @@
 -- Parts of a list by places, and sums over places.
-use Rattle.std.proofs.Common.{Bool, true, false, ◌≢◌, set, below_more, get_or-set_other, get_or-set_same, ◌≡◌, ℕ, zero, suc, ◌+◌, ◌<◌, ◌≤◌, List, [], ◌∷◌, ◌++◌, length, get_or, take, drop, map, refl, sym, ap, ap₂, ◌∙◌, arith, ℤ, pos, ◌+ℤ◌}
+use Rattle.std.proofs.Common.{Bool, true, false, ◌≢◌, set, below_more, get_or-set_other, get_or-set_same, ◌≡◌, ℕ, zero, suc, ◌+◌, ◌<◌, ◌≤◌, List, [], ◌∷◌, ◌++◌, length, get_or, take, drop, map, refl, sym, ap, ap₂, ◌∙◌, arith, ℤ, pos}
 use Rattle.std.proofs.Math.Seq.{take-suc}
 use Rattle.std.proofs.lemmas.List.{get_or-drop}
 use Rattle.std.proofs.Common.{length-drop}
 use Rattle.std.proofs.lemmas.List.FromFn.{get_or-map-range_with_len, length-map-range_with_len, map-range_with_len_more}
 use Rattle.std.proofs.Math.ListN.{length-set}
-use Rattle.std.specs.Prelude.{flat_map}
-use Rattle.mesh_model.specs.declared.Shape.{Shape}
-use Rattle.mesh_model.specs.Start.{start_leaves}
-use Rattle.mesh_model.proofs.Roots.{root_of_row, start_row}
-use Rattle.amr_engine.specs.Contents.{IsFilledBelow, IsRow}
-use Rattle.amr_engine.proofs.Ranges.{flat_of_map}
+use Rattle.amr_engine.specs.Contents.{IsFilledBelow}
 use Rattle.amr_num.proofs.Parts.{sum_below_same}
 use Rattle.std.specs.List.{range_with_len}
-use Rattle.std.proofs.lemmas.Int.{ints}
 use Rattle.amr_num.specs.Numbers.{sum_below}
-use Rattle.amr_num.specs.declared.BlockAt.{BlockAt}
-use Rattle.mesh_model.specs.Totals.{sum_over}
 
 -- the first n numbers from place p on, by their places
 pub part_by_places : (list : List ℤ) (p n : ℕ) → p + n ≤ length list → take n (drop p list) ≡ map (λ i. get_or list (p + i) (pos 0)) (range_with_len 0 n)
@@ -45,14 +37,6 @@ row_sum f xs n e =
     ap (λ m. sum_below m (λ i. get_or xs i (pos 0))) size
     ∙ sum_below_same n (λ i. get_or xs i (pos 0)) f (λ i l. ap (λ ys. get_or ys i (pos 0)) e ∙ get_or-map-range_with_len f 0 n i i (pos 0) l (omega arith))
 
--- the sum over one more place
-pub sum_over_more : (f : BlockAt → ℤ) (at : ℕ → BlockAt) (n : ℕ) → sum_over f (map at (range_with_len 0 (n + 1))) ≡ sum_over f (map at (range_with_len 0 n)) +ℤ f (at n)
-sum_over_more f at n = ap (sum_over f) (map-range_with_len_more at 0 n n (omega arith)) ∙ sum_over_push f (map at (range_with_len 0 n)) (at n)
-  where
-    sum_over_push : (f : BlockAt → ℤ) (bs : List BlockAt) (b : BlockAt) → sum_over f (bs ++ b ∷ []) ≡ sum_over f bs +ℤ f b
-    sum_over_push f [] b = omega (arith, ints)
-    sum_over_push f (c ∷ bs) b = let e = sum_over_push f bs b in omega (arith, ints)
-
 -- one more place is looked at: it takes the value, or stays
 module _ (k : ℕ) (test : ℕ → Bool) (value : ℤ) (old now : List ℤ) (so_far : IsFilledBelow k test value old now) where
   pub takes : k < length now → test k ≡ true → IsFilledBelow (k + 1) test value old (set now k value)
@@ -68,7 +52,3 @@ module _ (k : ℕ) (test : ℕ → Bool) (value : ℤ) (old now : List ℤ) (so_
     taken = below_more _ _ so_far.taken (rw failed (so_far.stays k (omega arith)));
     stays = λ p l. so_far.stays p (omega arith);
   }
-
--- what is made of the leaves at the start, root by root
-pub flat_by_row : {A : Type 0} (s : Shape) → IsRow s → (f : BlockAt → List A) → flat_map f (start_leaves s) ≡ flat_map (λ x. f (root_of_row x)) (range_with_len 0 s.rx)
-flat_by_row s row f = ap (flat_map f) (start_row s row.y row.z row.some_roots row.few_roots) ∙ flat_of_map f root_of_row (range_with_len 0 s.rx)

@@ -1,5 +1,5 @@
 -- Steps of cells, rows, planes and blocks, one after the other.
-use Rattle.std.proofs.Common.{◌≡◌, ◌⊎◌, OnOk, ℕ, ℤ, ◌+◌, ◌<◌, List, [], ◌∷◌, ◌++◌, Some, None, Result, Ok, Err, length, find, refl, sym, ap, ◌∙◌, subst, inl, inr}
+use Rattle.std.proofs.Common.{◌≡◌, ◌⊎◌, OnOk, ℕ, ℤ, ◌+◌, ◌<◌, List, [], ◌∷◌, ◌++◌, Some, None, Result, Ok, Err, find, refl, sym, ap, ◌∙◌, subst, inl, inr}
 use Rattle.std.proofs.lemmas.List.Folds.{find-append}
 use Rattle.std.specs.Prelude.{flat_map}
 use Rattle.std.specs.List.{range_with_len}
@@ -8,7 +8,7 @@ use Rattle.amr_num.specs.declared.CellAt.{CellAt}
 use Rattle.mesh_model.specs.declared.Shape.{Shape}
 use Rattle.amr_engine.specs.declared.advection.Above.{Above}
 use Rattle.amr_engine.specs.Contents.{IsCell}
-use Rattle.amr_engine.specs.Stepping.{FindsExcess, Holds, IsAmong, Steps, is_excess, stepped}
+use Rattle.amr_engine.specs.Stepping.{FindsExcess, Holds, IsAmong, Steps, is_excess}
 use Rattle.amr_engine.proofs.Ranges.{flat_after, flat_next}
 
 among_either : (c : CellAt) (xs ys : List CellAt) → IsAmong c (xs ++ ys) → IsAmong c xs ⊎ IsAmong c ys

@@ -1,5 +1,5 @@
 -- The step of one cell.
-use Rattle.std.proofs.Common.{◌≡◌, ◌≢◌, ℕ, ◌+◌, ◌^◌, ◌<◌, ◌≤◌, Bool, true, false, cond, List, [], ◌∷◌, Some, None, Ok, Err, length, find, set, get_or, ℤ, pos, ◌-ℤ◌, refl, sym, ap, ap₂, subst, ◌∙◌, arith, inl, inr, get_or-set_other, get_or-set_same, ltb-true, lt-ltb}
+use Rattle.std.proofs.Common.{◌≡◌, ℕ, ◌^◌, ◌<◌, false, List, [], ◌∷◌, Ok, Err, length, set, get_or, ℤ, pos, ◌-ℤ◌, refl, sym, ap, ap₂, subst, ◌∙◌, arith, inl, inr, get_or-set_other, get_or-set_same, ltb-true, lt-ltb}
 use Rattle.std.proofs.Math.ListN.{length-set}
 use Rattle.std.proofs.lemmas.Bool.{cases_Bool, cases_eq}
 use Rattle.std.proofs.lemmas.Int.{ints}
@@ -7,17 +7,15 @@ use Rattle.std.specs.Prelude.{unsigned_abs}
 use Rattle.amr_num.specs.Numbers.{Within}
 use Rattle.amr_num.specs.declared.CellAt.{CellAt}
 use Rattle.amr_num.proofs.Machine.{kept}
-use Rattle.amr_num.proofs.Sizes.{within_add}
 use Rattle.mesh_model.specs.declared.Shape.{Shape}
-use Rattle.mesh_model.specs.RangeWalk.{is_above}
-use Rattle.amr_engine.specs.Contents.{IsCell, IsRow, cell_at, cell_count, content_in, place}
-use Rattle.amr_engine.specs.Stepping.{Holds, IsAmong, Steps, is_excess, net_in, stepped}
+use Rattle.amr_engine.specs.Contents.{IsCell, IsRoots, cell_at, cell_count, content_in, place}
+use Rattle.amr_engine.specs.Stepping.{Steps, is_excess, net_in, stepped}
 use Rattle.amr_engine.proofs.Fluxes.{stepped_is}
 use Rattle.amr_engine.proofs.Machine.{kept_128, kept_64, wide}
 use Rattle.amr_engine.proofs.Uniform.{cell_again, place_inside}
 
 -- what settled computes is what the cell holds after the step
-pub settled_is : (s : Shape) (contents speeds : List ℤ) (c : CellAt) (content net left : ℤ) → IsRow s → IsCell s c → Within (2 ^ 40) content → Within (2 ^ 43) net →
+pub settled_is : (s : Shape) (contents speeds : List ℤ) (c : CellAt) (content net left : ℤ) → IsRoots s → IsCell s c → Within (2 ^ 40) content → Within (2 ^ 43) net →
     content ≡ content_in s contents c → net ≡ net_in s contents speeds c → left ≡ kept_64 content -ℤ kept_128 net → left ≡ stepped s contents speeds c
 settled_is s contents speeds c content net left row cell small_content small_net content_is net_is left_is =
     left_is ∙ ap₂ (λ u v. u -ℤ v) (kept content (2 ^ 40) small_content (omega arith) ∙ content_is) (wide net (2 ^ 43) small_net (omega arith) ∙ net_is) ∙ sym (stepped_is s contents speeds c row cell)
@@ -52,6 +50,7 @@ cell_made s contents speeds next c p written left cell whole p_is written_is is 
   where
     inside : p < length next
     inside = let l = place_inside s c cell in omega (arith, l, p_is, whole)
+
     at_cell : (d : CellAt) → IsCell s d → d ≡ c → content_in s (set next p written) d ≡ stepped s contents speeds d
     at_cell d is_d e = ap (λ q. get_or (set next p written) q (pos 0)) (ap (place s) e ∙ sym p_is) ∙ get_or-set_same next p written (pos 0) inside ∙ written_is ∙ is ∙ ap (stepped s contents speeds) (sym e)
 

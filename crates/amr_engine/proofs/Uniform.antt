@@ -1,90 +1,130 @@
--- The leaf cells of a row of roots, and their places in the list of contents.
-use Rattle.std.proofs.Common.{◌≡◌, ℕ, zero, suc, ◌+◌, ◌*◌, ◌/◌, ◌%◌, ◌<◌, ◌≤◌, true, map, inl, inr, refl, sym, ap, subst, ◌∙◌, arith, mod-eq_of_lt}
-use Rattle.std.proofs.Math.Nat.{add-mul-div_left, div-add-mod, mod-lt, add-mul-mod_self_left, div-eq_of_lt, div-eq_of_lt-le, div-lt_iff_lt-mul, mul-le-mul_left}
-use Rattle.std.proofs.lemmas.Bool.{cases_lt}
-use Rattle.std.specs.List.{range_with_len}
+-- The roots and their leaf cells, and the places of these in the list of contents.
+use Rattle.std.proofs.Common.{◌≡◌, ℕ, List, [], ◌∷◌, suc, ◌^◌, ◌+◌, ◌*◌, ◌/◌, ◌%◌, ◌<◌, ◌≤◌, true, inl, refl, sym, ap, subst, ◌∙◌, arith, mod-eq_of_lt}
+use Rattle.std.proofs.Math.Nat.{add-mul-div_left, add-mul-mod_self_left, div-eq_of_lt, div-lt_iff_lt-mul, mul-le-mul_left}
 use Rattle.amr_num.specs.declared.Axis.TheVariants.{X, Y, Z}
 use Rattle.amr_num.specs.declared.BlockAt.{BlockAt}
 use Rattle.amr_num.specs.declared.CellAt.{CellAt}
 use Rattle.mesh_model.specs.declared.Shape.{Shape}
 use Rattle.mesh_model.specs.Order.{IsIn}
-use Rattle.mesh_model.specs.Coordinates.{extent}
+use Rattle.mesh_model.specs.Coordinates.{extent, is_periodic_kind, side_index, side_kind}
 use Rattle.mesh_model.specs.Plain.{block_of, is_leaf}
-use Rattle.mesh_model.specs.Start.{start_grid}
+use Rattle.amr_num.specs.declared.Axis.{Axis}
+use Rattle.amr_num.specs.declared.SideKind.{SideKind}
+use Rattle.amr_num.specs.declared.SideKind.TheVariants.{Closed}
+use Rattle.mesh_model.specs.Limits.{IsShape}
+use Rattle.mesh_model.specs.Start.{start_grid, start_leaves}
 use Rattle.mesh_model.specs.Texts.{in_block}
-use Rattle.mesh_model.proofs.Roots.{root_of_row, start_row}
+use Rattle.mesh_model.proofs.Roots.{start_every, start_root}
 use Rattle.mesh_model.proofs.Tiling.{leaf_says, leaf_shows}
-use Rattle.amr_engine.specs.Contents.{IsBlock, IsCell, IsRow, cell_at, cell_count, place}
+use Rattle.amr_engine.specs.Contents.{IsBlock, IsCell, IsRoots, cell_at, cell_count, place}
 
--- ---- the roots of a row
+-- ---- the roots
 
-in_row : (a n : ℕ) (b : BlockAt) → IsIn b (map root_of_row (range_with_len a n)) → (x : ℕ) × (x < a + n) × (root_of_row x ≡ b)
-in_row a zero b h = absurd h
-in_row a (suc n) b (inl e) = (a, omega arith, e)
-in_row a (suc n) b (inr h) = let r = in_row (a + 1) n b h in (r.0, omega (arith, r.1), r.2)
+-- six closed sides
+abbrev closed_sides : List SideKind
+closed_sides = Closed ∷ Closed ∷ Closed ∷ Closed ∷ Closed ∷ Closed ∷ []
 
-row_in : (a n x : ℕ) → a ≤ x → x < a + n → IsIn (root_of_row x) (map root_of_row (range_with_len a n))
-row_in a zero x h k = absurd (omega arith)
-row_in a (suc n) x h k = elim (cases_lt a x) [
-  | inl later ↦ inr (row_in (a + 1) n x (omega arith) (omega arith))
-  | inr here ↦ inl (let e : a ≡ x = omega arith in ap root_of_row e)
-]
+all_closed : (a : Axis) → is_periodic_kind (side_kind closed_sides (side_index a)) ≡ is_periodic_kind (side_kind closed_sides (suc (side_index a)))
+all_closed X = refl
+all_closed Y = refl
+all_closed Z = refl
 
--- a root is its place in the row
-root_is : (s : Shape) (b : BlockAt) → IsBlock s b → root_of_row b.x ≡ b
-root_is s b block = λ i. record { level = sym block.level i; x = b.x; y = sym block.y i; z = sym block.z i }
+-- a shape with as many roots, which is one of the allowed ones
+some_shape : Shape → Shape
+some_shape s = record { rx = s.rx; ry = s.ry; rz = s.rz; n = 4; g = 1; min = 0; max = 0; sides = closed_sides }
 
-quotient_below : (p n r x : ℕ) → 0 < n → p / n ≡ x → x < r → p < r * n * 1
-quotient_below p n r x h e l =
-    let below : p / n < r = omega arith in
+allowed : (s : Shape) → IsRoots s → IsShape (some_shape s)
+unfolding some_shape
+allowed s roots = record {
+  rx = roots.some X;
+  ry = roots.some Y;
+  rz = roots.some Z;
+  few_x = roots.few X;
+  few_y = roots.few Y;
+  few_z = roots.few Z;
+  cells = inl refl;
+  guards = inl refl;
+  min = omega arith;
+  max = omega arith;
+  six = refl;
+  both = all_closed;
+}
+
+same_leaves : (s : Shape) → start_leaves (some_shape s) ≡ start_leaves s
+unfolding start_leaves some_shape
+same_leaves s = refl
+
+one_scale : (r x l : ℕ) → l ≡ 0 → x < r * 2 ^ l → x < r
+one_scale r x l e h = let below : x < r * 1 = subst (λ t. x < r * 2 ^ t) e h in omega arith
+
+-- the leaves at the start are the roots of the domain
+pub leaf_is_block : (s : Shape) (b : BlockAt) → IsIn b (start_leaves s) → IsBlock s b
+leaf_is_block s b h =
+    let root = start_root s b h in
+    record {
+      level = root.1;
+      x = one_scale s.rx b.x b.level root.1 root.0.x;
+      y = one_scale s.ry b.y b.level root.1 root.0.y;
+      z = one_scale s.rz b.z b.level root.1 root.0.z;
+    }
+
+pub block_is_leaf : (s : Shape) (b : BlockAt) → IsRoots s → IsBlock s b → IsIn b (start_leaves s)
+unfolding some_shape
+block_is_leaf s b roots block =
+    let scale : 2 ^ b.level ≡ 1 = ap (λ l. 2 ^ l) block.level in
+    let at : (r x : ℕ) → x < r → x < r * 2 ^ b.level = λ r x l. subst (λ t. x < r * t) (sym scale) (omega arith) in
+    let level = block.level in
+    subst (λ leaves. IsIn b leaves) (same_leaves s) (start_every (some_shape s) (allowed s roots) b (record { level = omega arith; x = at s.rx b.x block.x; y = at s.ry b.y block.y; z = at s.rz b.z block.z }) level)
+
+-- ---- the cells of the roots
+
+quotient_below : (p n r : ℕ) → 0 < n → p / n < r → p < r * n * 1
+quotient_below p n r h below =
     let both = div-lt_iff_lt-mul {k = n} {x = p} {y = r} h in
     let whole : p < r * n = both.0 below in
     omega arith
 
+below_quotient : (p n r : ℕ) → 0 < n → p < r * n * 1 → p / n < r
+below_quotient p n r h below = (div-lt_iff_lt-mul {k = n} {x = p} {y = r} h).1 (omega arith)
+
+-- the block of a cell of level 0 is a root
+pub block_of_cell : (s : Shape) (c : CellAt) → IsRoots s → IsCell s c → IsBlock s (block_of s.n c)
+block_of_cell s c roots cell = record {
+  level = cell.level;
+  x = below_quotient c.x s.n s.rx roots.some_cells cell.x;
+  y = below_quotient c.y s.n s.ry roots.some_cells cell.y;
+  z = below_quotient c.z s.n s.rz roots.some_cells cell.z;
+}
+
 -- a leaf cell is a cell of level 0 of the domain
-pub leaf_is_cell : (s : Shape) (c : CellAt) → IsRow s → is_leaf (start_grid s) c ≡ true → IsCell s c
-leaf_is_cell s c row h =
-    let leaf = leaf_says (start_grid s) (block_of s.n c) h in
-    let among = subst (λ leaves. IsIn (block_of s.n c) leaves) (start_row s row.y row.z row.some_roots row.few_roots) leaf in
-    let root = in_row 0 s.rx (block_of s.n c) among in
-    let x : c.x / s.n ≡ root.0 = sym (ap (λ b. b.x) root.2) in
-    let y : c.y / s.n ≡ 0 = sym (ap (λ b. b.y) root.2) in
-    let z : c.z / s.n ≡ 0 = sym (ap (λ b. b.z) root.2) in
+pub leaf_is_cell : (s : Shape) (c : CellAt) → IsRoots s → is_leaf (start_grid s) c ≡ true → IsCell s c
+leaf_is_cell s c roots h =
+    let block = leaf_is_block s (block_of s.n c) (leaf_says (start_grid s) (block_of s.n c) h) in
     record {
-      level = sym (ap (λ b. b.level) root.2);
-      x = quotient_below c.x s.n s.rx root.0 row.some_cells x (omega (arith, root.1));
-      y = quotient_below c.y s.n s.ry 0 row.some_cells y (omega (arith, row.y));
-      z = quotient_below c.z s.n s.rz 0 row.some_cells z (omega (arith, row.z));
+      level = block.level;
+      x = quotient_below c.x s.n s.rx roots.some_cells block.x;
+      y = quotient_below c.y s.n s.ry roots.some_cells block.y;
+      z = quotient_below c.z s.n s.rz roots.some_cells block.z;
     }
 
-block_along : (n q i : ℕ) → i < n → (n * q + i) / n ≡ q
-block_along n q i h = div-eq_of_lt-le {k = q} n {m = n * q + i} (omega arith) (omega arith)
-
--- the cells of the roots are leaf cells
-pub cell_is_leaf : (s : Shape) (b : BlockAt) (i j k : ℕ) → IsRow s → IsBlock s b → i < s.n → j < s.n → k < s.n → is_leaf (start_grid s) (in_block s.n b i j k) ≡ true
-cell_is_leaf s b i j k row block hi hj hk =
-    let same : b ≡ block_of s.n (in_block s.n b i j k) = λ t. record { level = b.level; x = sym (block_along s.n b.x i hi) t; y = sym (block_along s.n b.y j hj) t; z = sym (block_along s.n b.z k hk) t } in
-    let here = subst (λ c. IsIn c (map root_of_row (range_with_len 0 s.rx))) (root_is s b block) (row_in 0 s.rx b.x (omega arith) (omega (arith, block.x))) in
-    let among = subst (λ leaves. IsIn b leaves) (sym (start_row s row.y row.z row.some_roots row.few_roots)) here in
-    leaf_shows (start_grid s) (block_of s.n (in_block s.n b i j k)) (subst (λ c. IsIn c (start_grid s).leaves) same among)
-
 -- each cell of level 0 of the domain is a leaf cell
-pub leaf_of_cell : (s : Shape) (c : CellAt) → IsRow s → IsCell s c → is_leaf (start_grid s) c ≡ true
-leaf_of_cell s c row cell =
-    let n = s.n in
-    let block : BlockAt = record { level = 0; x = c.x / n; y = 0; z = 0 } in
-    let here : (u : ℕ) → n * (u / n) + u % n ≡ u = λ u. div-add-mod u n in
-    let small : (u : ℕ) → u % n < n = λ u. mod-lt u row.some_cells in
-    let x : c.x / n < s.rx = (div-lt_iff_lt-mul {k = n} {x = c.x} {y = s.rx} row.some_cells).1 (omega (arith, cell.x)) in
-    let y : c.y < n = one_root s.ry c.y row.y cell.y in
-    let z : c.z < n = one_root s.rz c.z row.z cell.z in
-    let same : in_block n block (c.x % n) c.y c.z ≡ c = λ i. record { level = sym cell.level i; x = here c.x i; y = own c.y i; z = own c.z i } in
-    subst (λ d. is_leaf (start_grid s) d ≡ true) same (cell_is_leaf s block (c.x % n) c.y c.z row (record { level = refl; x = x; y = refl; z = refl }) (small c.x) y z)
-  where
-    own : (u : ℕ) → s.n * 0 + u ≡ u
-    own u = omega arith
-    one_root : (r u : ℕ) → r ≡ 1 → u < r * s.n * 1 → u < s.n
-    one_root r u e h = let below : u < 1 * s.n * 1 = subst (λ t. u < t * s.n * 1) e h in omega arith
+pub leaf_of_cell : (s : Shape) (c : CellAt) → IsRoots s → IsCell s c → is_leaf (start_grid s) c ≡ true
+leaf_of_cell s c roots cell = leaf_shows (start_grid s) (block_of s.n c) (block_is_leaf s (block_of s.n c) roots (block_of_cell s c roots cell))
+
+within_roots : (n q i r : ℕ) → q < r → i < n → n * q + i < r * n * 1
+within_roots n q i r hq hi = let next : n * (q + 1) ≤ n * r = mul-le-mul_left n (omega arith) in omega arith
+
+-- the cells of the roots are cells of the domain, and leaf cells
+pub cell_of_block : (s : Shape) (b : BlockAt) (i j k : ℕ) → IsBlock s b → i < s.n → j < s.n → k < s.n → IsCell s (in_block s.n b i j k)
+cell_of_block s b i j k block hi hj hk = record {
+  level = block.level;
+  x = within_roots s.n b.x i s.rx block.x hi;
+  y = within_roots s.n b.y j s.ry block.y hj;
+  z = within_roots s.n b.z k s.rz block.z hk;
+}
+
+pub cell_is_leaf : (s : Shape) (b : BlockAt) (i j k : ℕ) → IsRoots s → IsBlock s b → i < s.n → j < s.n → k < s.n → is_leaf (start_grid s) (in_block s.n b i j k) ≡ true
+cell_is_leaf s b i j k roots block hi hj hk = leaf_of_cell s (in_block s.n b i j k) roots (cell_of_block s b i j k block hi hj hk)
 
 -- ---- cells and places
 

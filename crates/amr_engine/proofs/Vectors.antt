@@ -14,7 +14,7 @@ use Rattle.mesh_model.specs.Commands.{IsBox}
 use Rattle.mesh_model.specs.Fill.{with_cells}
 use Rattle.mesh_model.specs.Plain.{on_cells}
 use Rattle.mesh_model.specs.Start.{start_grid}
-use Rattle.amr_engine.specs.Contents.{AllAtMost, IsFilledBelow, IsRow, IsUniform, cell_at, cell_count}
+use Rattle.amr_engine.specs.Contents.{AllAtMost, IsFilledBelow, IsRoots, IsUniform, cell_at, cell_count}
 use Rattle.amr_engine.specs.UniformMesh.{uniform_mesh}
 use Rattle.amr_engine.proofs.Filled.{filled_mesh, still_uniform}
 
@@ -69,14 +69,14 @@ extent_small : (r n l : ℕ) → r ≤ 8 → n ≤ 8 → l ≤ 10 → r * n * 2 
 extent_small r n l hr hn hl = mul-le (r * n) (2 ^ l) 64 1024 (mul-le r n 8 8 hr hn) (pow_mono {i = l} {j = 10} hl)
 
 -- the numbers of a box are small
-pub box_high : (s : Shape) (l : ℕ) (low high : List ℕ) → IsRow s → IsBox s l low high → AllAtMost (2 ^ 20) high
+pub box_high : (s : Shape) (l : ℕ) (low high : List ℕ) → IsRoots s → IsBox s l low high → AllAtMost (2 ^ 20) high
 box_high s l low high row at =
-    let x = extent_small s.rx s.n l row.few_roots row.few_cells at.level in
-    let y = extent_small s.ry s.n l (let e = row.y in omega arith) row.few_cells at.level in
-    let z = extent_small s.rz s.n l (let e = row.z in omega arith) row.few_cells at.level in
+    let x = extent_small s.rx s.n l (row.few X) row.few_cells at.level in
+    let y = extent_small s.ry s.n l (row.few Y) row.few_cells at.level in
+    let z = extent_small s.rz s.n l (row.few Z) row.few_cells at.level in
     record { x = omega (arith, at.ends X, x); y = omega (arith, at.ends Y, y); z = omega (arith, at.ends Z, z) }
 
-pub box_low : (s : Shape) (l : ℕ) (low high : List ℕ) → IsRow s → IsBox s l low high → AllAtMost (2 ^ 20) low
+pub box_low : (s : Shape) (l : ℕ) (low high : List ℕ) → IsRoots s → IsBox s l low high → AllAtMost (2 ^ 20) low
 box_low s l low high row at =
     let most = box_high s l low high row at in
     record { x = omega (arith, at.begins X, most.x); y = omega (arith, at.begins Y, most.y); z = omega (arith, at.begins Z, most.z) }

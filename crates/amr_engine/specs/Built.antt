@@ -34,9 +34,9 @@ is_built_command d (PrintGuards group at) = false
 is_built_command d (Total var) = true
 is_built_command d NetFlux = false
 
--- one root on y and on z, and neither a face nor an edge variable
+-- neither a face nor an edge variable
 unfoldable pub is_built_mesh : Declared → Bool
-is_built_mesh d = (d.shape.ry == 1) && (d.shape.rz == 1) && is_none d.names.face && is_none d.names.edge
+is_built_mesh d = is_none d.names.face && is_none d.names.edge
 
 -- the script is built for so many ranks and workers: it declares what is built, for one rank and one worker, and all its commands are
 unfoldable pub is_built : PlainScript → ℕ → ℕ → Bool

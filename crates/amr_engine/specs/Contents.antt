@@ -6,7 +6,7 @@ use Rattle.amr_num.specs.declared.BlockAt.{BlockAt}
 use Rattle.amr_num.specs.declared.CellAt.{CellAt}
 use Rattle.mesh_model.specs.declared.Shape.{Shape}
 use Rattle.mesh_model.specs.declared.script.Declared.{Declared}
-use Rattle.mesh_model.specs.Coordinates.{extent, is_periodic_kind, side_index, side_kind}
+use Rattle.mesh_model.specs.Coordinates.{extent, roots, is_periodic_kind, side_index, side_kind}
 use Rattle.mesh_model.specs.Texts.{in_block, places}
 
 -- how many cells of level 0 there are
@@ -36,25 +36,23 @@ pub record IsCell (s : Shape) (c : CellAt) : Type 0 where
 pub record IsBlock (s : Shape) (b : BlockAt) : Type 0 where
   pub level : b.level ≡ 0
   pub x : b.x < s.rx
-  pub y : b.y ≡ 0
-  pub z : b.z ≡ 0
+  pub y : b.y < s.ry
+  pub z : b.z < s.rz
 
 -- a row of a block's contents, over x
 abbrev pub row_contents : Shape → List ℤ → BlockAt → ℕ → ℕ → List ℤ
 row_contents s contents b j k = map (λ i. content_in s contents (in_block s.n b i j k)) (places s.n)
 
--- the domain is a row of 1 to 8 roots along x, and blocks have at most 8 cells along each axis
-pub record IsRow (s : Shape) : Type 0 where
+-- the domain has 1 to 8 roots along each axis, and blocks have 1 to 8 cells
+pub record IsRoots (s : Shape) : Type 0 where
   pub some_cells : 0 < s.n
   pub few_cells : s.n ≤ 8
-  pub some_roots : 0 < s.rx
-  pub few_roots : s.rx ≤ 8
-  pub y : s.ry ≡ 1
-  pub z : s.rz ≡ 1
+  pub some : (a : Axis) → 0 < roots s a
+  pub few : (a : Axis) → roots s a ≤ 8
 
 -- the variables are cell variables, and each has one content for each cell of level 0 and a number that has flowed out
 pub record IsUniform (d : Declared) (contents : List (List ℤ)) (outs : List ℤ) : Type 0 where
-  pub shape : IsRow d.shape
+  pub shape : IsRoots d.shape
   pub faces : d.names.face ≡ None
   pub edges : d.names.edge ≡ None
   pub each : length contents ≡ length d.names.cells

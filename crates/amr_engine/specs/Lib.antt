@@ -1,6 +1,5 @@
 pub mod Contents
-pub mod LineWords
-pub mod Printing
+pub mod Values
 pub mod UniformMesh
 pub mod EngineMesh
 pub mod Plain

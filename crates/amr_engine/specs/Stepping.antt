@@ -1,5 +1,5 @@
 -- One step of a cell variable on the cells of level 0.
-use Rattle.std.specs.Prelude.{◌≡◌, ◌≤◌, ◌⊎◌, ◌^◌, Bool, Some, None, List, [], ◌∷◌, Result, Ok, Err, OnOk, All, false, true, length, find, ℤ, ◌+ℤ◌, ◌-ℤ◌}
+use Rattle.std.specs.Prelude.{◌≡◌, ◌⊎◌, ◌^◌, Bool, Some, None, List, [], ◌∷◌, Result, Ok, Err, OnOk, false, true, length, find, ℤ, ◌+ℤ◌, ◌-ℤ◌}
 use Rattle.amr_num.specs.Numbers.{Within}
 use Rattle.amr_num.specs.declared.CellAt.{CellAt}
 use Rattle.amr_num.specs.declared.FaceAt.{FaceAt}
@@ -17,7 +17,7 @@ use Rattle.mesh_model.specs.Totals.{block_sum, sum_over}
 use Rattle.amr_engine.specs.declared.advection.Above.{Above}
 use Rattle.amr_engine.specs.declared.advection.Hindrance.{Hindrance}
 use Rattle.amr_engine.specs.declared.advection.Hindrance.TheVariants.{TooFast, Content, FlowedOut}
-use Rattle.amr_engine.specs.Contents.{IsCell, IsRow, cell_count, content_in}
+use Rattle.amr_engine.specs.Contents.{IsCell, IsRoots, cell_count, content_in}
 
 -- the contents as the mesh of level 0 has them
 abbrev pub field : Shape → List ℤ → CellAt → ℤ
@@ -61,9 +61,9 @@ pub record Steps (s : Shape) (contents speeds : List ℤ) (cells : List CellAt) 
   pub made : OnOk result ((c : CellAt) → IsCell s c → IsAmong c cells → Holds s contents speeds new c)
   pub found : FindsExcess s contents speeds cells result
 
--- what a step takes: a row of roots, contents that leaf cells may hold, and speeds that a script may have
+-- what a step takes: a domain of roots, contents that leaf cells may hold, and speeds that a script may have
 pub record IsStep (s : Shape) (contents numbers : List ℤ) : Type 0 where
-  pub row : IsRow s
+  pub roots : IsRoots s
   pub limits : IsShape s
   pub whole : length contents ≡ cell_count s
   pub small : (c : CellAt) → IsCell s c → Within (2 ^ 40) (content_in s contents c)

@@ -1,6 +1,7 @@
-ghost use Rattle.amr_engine.specs.Contents.{IsBlock, IsCell, IsRow, cell_count, content_in};
+ghost use Rattle.amr_engine.specs.Contents.{IsBlock, IsCell, IsRoots, cell_count, content_in};
 ghost use Rattle.amr_engine.specs.Stepping.{IsOut, IsStep, Steps, Tries, flux_in, net_in};
 ghost use Rattle.amr_num.specs.Numbers.{Within};
+ghost use Rattle.block_tree.specs.GridOf.{grid_of};
 ghost use Rattle.mesh_model.specs.Advect.{above_or, below_or, is_closed_kind, speed as speed_on};
 ghost use Rattle.mesh_model.specs.Commands.{AreThree};
 ghost use Rattle.mesh_model.specs.Coordinates as coordinates;
@@ -13,8 +14,9 @@ ghost use Rattle.mesh_model.specs.Stops as stops;
 ghost use Rattle.mesh_model.specs.Texts.{in_block, places};
 ghost use Rattle.std.specs.Prelude.{◌≡◌, ◌+◌, ◌*◌, ◌^◌, ◌<◌, ◌≤◌, ◌-ℤ◌, suc, unsigned_abs, [], ◌∷◌, length, map, flat_map, All};
 
-use crate::contents::{cell_in, place_of, root, total};
+use crate::contents::{cell_in, place_of, total};
 use amr_num::{Axis, BlockAt, CellAt, SideKind};
+use block_tree::Tree;
 use mesh_model::Shape;
 use mesh_model::axes::{extent, is_periodic, place, placed};
 use step_advect::{flux, settled};
@@ -109,7 +111,7 @@ fn high_side(shape: &Shape, axis: Axis) -> SideKind
 
 /// The content of a cell.
 fn content(shape: &Shape, contents: &[i64], cell: CellAt) -> i64
-    requires shape { IsRow shape.now }
+    requires shape { IsRoots shape.now }
     requires whole { length contents.now ≡ cell_count shape.now }
     requires small { Within (2 ^ 40) (content_in shape.now contents.now cell) }
     requires cell { IsCell shape.now cell }
@@ -246,7 +248,13 @@ fn step_row(
     ensures { Steps shape.now contents.now speeds (map (λ i. in_block shape.now.n block i j k) (places shape.now.n)) result next.old next.new }
 {
     for i in 0..shape.n {
-        step_cell(shape, contents, speeds, cell_in(shape, block, i, j, k), next)?;
+        step_cell(
+            shape,
+            contents,
+            speeds,
+            cell_in(shape, block, i, j, k),
+            next,
+        )?;
     }
     Ok(())
 }
@@ -292,43 +300,48 @@ fn step_block(
 }
 
 /// Writes what all cells hold after the step, up to the first that is out of range: blocks go in Morton order, and in
-/// a block x goes fastest, then y, then z.
+/// a block x goes fastest, then y, then z. The tree has the roots of the domain as its leaves.
 pub fn step(
     shape: &Shape,
+    tree: &Tree,
     contents: &[i64],
     speeds: [i64; 3],
     next: &mut [i64],
 ) -> Result<(), Above>
     requires step { IsStep shape.now contents.now speeds }
+    requires tree { grid_of tree.now ≡ start_grid shape.now }
     requires whole { length next.old ≡ cell_count shape.now }
     ensures { Steps shape.now contents.now speeds (cells_walked (start_grid shape.now)) result next.old next.new }
 {
-    for x in 0..shape.rx {
-        step_block(shape, contents, speeds, root(x), next)?;
+    for node in 0..tree.len() {
+        step_block(shape, contents, speeds, tree.at(node), next)?;
     }
     Ok(())
 }
 
 /// What has flowed out in all after a step made `next` of the contents: what had flowed out before, and what the total lost.
-fn flowed_out(shape: &Shape, contents: &[i64], out: i128, next: &[i64]) -> i128
-    requires row { IsRow shape.now }
+fn flowed_out(shape: &Shape, tree: &Tree, contents: &[i64], out: i128, next: &[i64]) -> i128
+    requires shape { IsRoots shape.now }
+    requires tree { grid_of tree.now ≡ start_grid shape.now }
     requires whole { length contents.now ≡ cell_count shape.now }
     requires next { length next.now ≡ cell_count shape.now }
     requires out { Within (2 ^ 100) out }
     ensures { IsOut shape.now contents.now out next.now result }
 {
-    out + total(shape, contents) - total(shape, next)
+    out + total(shape, tree, contents) - total(shape, tree, next)
 }
 
 /// Makes one step of a variable in `next`, and gives what has flowed out of it in all, which was `out` before.
 pub fn try_step(
     shape: &Shape,
+    tree: &Tree,
     contents: &[i64],
     out: i128,
     speeds: [i64; 3],
     next: &mut [i64],
 ) -> Result<i128, Hindrance>
     requires step { IsStep shape.now contents.now speeds }
+    requires tree { grid_of tree.now ≡ start_grid shape.now }
     requires out { Within (2 ^ 100) out }
     requires whole { length next.old ≡ cell_count shape.now }
     ensures tries { Tries shape.now contents.now speeds out next.old next.new result }
@@ -337,10 +350,10 @@ pub fn try_step(
     if !keeps_courant(shape, speeds) {
         return Err(Hindrance::TooFast);
     }
-    if let Err(above) = step(shape, contents, speeds, next) {
+    if let Err(above) = step(shape, tree, contents, speeds, next) {
         return Err(Hindrance::Content(above));
     }
-    let out = flowed_out(shape, contents, out, next);
+    let out = flowed_out(shape, tree, contents, out, next);
     if out.unsigned_abs() > MOST_OUT {
         return Err(Hindrance::FlowedOut(out));
     }

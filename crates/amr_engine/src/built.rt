@@ -30,10 +30,7 @@ fn is_built_command(declared: &Declared, command: Command) -> bool
 fn is_built_mesh(declared: &Declared) -> bool
     ensures { result ≡ plain.is_built_mesh declared.now }
 {
-    declared.shape.ry == 1
-        && declared.shape.rz == 1
-        && declared.names.face().is_none()
-        && declared.names.edge().is_none()
+    declared.names.face().is_none() && declared.names.edge().is_none()
 }
 
 /// Whether all commands of the lines are built under these declarations.

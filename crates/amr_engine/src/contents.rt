@@ -1,37 +1,42 @@
-ghost use Rattle.amr_engine.specs.Contents.{AllAtMost, IsBlock, IsCell, IsFilledBelow, IsRow, cell_at, cell_count, content_in, place, row_contents};
+ghost use Rattle.amr_engine.specs.Contents.{AllAtMost, IsBlock, IsCell, IsFilledBelow, IsRoots, cell_at, cell_count, content_in, place, row_contents};
 ghost use Rattle.amr_num.specs.Numbers.{Within, sum_below};
+ghost use Rattle.block_tree.specs.GridOf.{grid_of};
+ghost use Rattle.mesh_model.specs.Coordinates.{extent};
 ghost use Rattle.mesh_model.specs.Fill.{is_between, is_in_box};
 ghost use Rattle.mesh_model.specs.Texts.{in_block, places};
 ghost use Rattle.mesh_model.specs.Totals.{block_sum, sum_over};
-ghost use Rattle.mesh_model.specs.Start.{start_leaves};
+ghost use Rattle.mesh_model.specs.Start.{start_grid, start_leaves};
 ghost use Rattle.mesh_model.specs.Touch.{high_end, low_end};
 ghost use Rattle.std.specs.Prelude.{◌≡◌, ℕ, ◌+◌, ◌*◌, ◌<◌, ◌≤◌, ◌^◌, ◌&&◌, if◌then◌else◌, nat_le, List, length, map, replicate, IfOk, ℤ, pos, true, slice_index, slice_index_or};
 
-use amr_num::{BlockAt, CellAt, OutOfMemory};
+use amr_num::{Axis, BlockAt, CellAt, OutOfMemory};
+use block_tree::Tree;
 use mesh_model::Shape;
+use mesh_model::axes::roots;
 use std::alloc::Global;
 
-/// How many cells of level 0 stand side by side along x.
-fn cells_along_x(shape: &Shape) -> u32
-    requires { IsRow shape.now }
-    ensures value { result ≡ shape.now.rx * shape.now.n }
+/// How many cells of level 0 stand side by side along an axis.
+fn cells_along(shape: &Shape, axis: Axis) -> u32
+    requires { IsRoots shape.now }
+    ensures value { result ≡ extent shape.now axis 0 }
+    ensures some { 0 < result }
     ensures few { result ≤ 64 }
 {
-    shape.rx * shape.n
+    roots(shape, axis) * shape.n
 }
 
 /// How many cells of level 0 the domain has.
 fn cells_in(shape: &Shape) -> usize
-    requires { IsRow shape.now }
+    requires { IsRoots shape.now }
     ensures { result ≡ cell_count shape.now }
 {
-    let across = shape.n * shape.n;
-    (cells_along_x(shape) * across) as usize
+    let on_plane = cells_along(shape, Axis::Y) * cells_along(shape, Axis::Z);
+    (cells_along(shape, Axis::X) * on_plane) as usize
 }
 
 /// A list of zeros, one for each cell of level 0.
 pub fn zero_list(alloc: Global, shape: &Shape) -> Result<Vec<i64>, OutOfMemory>
-    requires { IsRow shape.now }
+    requires { IsRoots shape.now }
     ensures { IfOk result (λ list. list.items ≡ replicate (cell_count shape.now) (pos 0)) }
 {
     match vec![in alloc; 0i64; cells_in(shape)] {
@@ -52,7 +57,7 @@ pub fn zero_outs(alloc: Global, variables: u32) -> Result<Vec<i128>, OutOfMemory
 
 /// A list of zeros for each cell variable, one for each cell of level 0.
 pub fn zeros(alloc: Global, shape: &Shape, variables: u32) -> Result<Vec<Vec<i64>>, OutOfMemory>
-    requires { IsRow shape.now }
+    requires { IsRoots shape.now }
     ensures { IfOk result (λ lists. map (λ list. list.items) lists.items ≡ replicate variables (replicate (cell_count shape.now) (pos 0))) }
 {
     let mut lists = Vec::new(alloc);
@@ -67,40 +72,31 @@ pub fn zeros(alloc: Global, shape: &Shape, variables: u32) -> Result<Vec<Vec<i64
 
 /// The place in a variable's contents of a cell of level 0 of the domain.
 pub fn place_of(shape: &Shape, cell: CellAt) -> usize
-    requires shape { IsRow shape.now }
+    requires shape { IsRoots shape.now }
     requires cell { IsCell shape.now cell }
     ensures value { result ≡ place shape.now cell }
     ensures inside { result < cell_count shape.now }
 {
-    let along_x = cells_along_x(shape);
-    let rows = cell.y + shape.n * cell.z;
-    (cell.x + along_x * rows) as usize
+    let rows = cell.y + cells_along(shape, Axis::Y) * cell.z;
+    (cell.x + cells_along(shape, Axis::X) * rows) as usize
 }
 
 /// A row of a block's contents of a cell variable, over x.
 pub fn row<'a>(shape: &Shape, contents: &'a [i64], block: BlockAt, j: u32, k: u32) -> &'a [i64]
-    requires shape { IsRow shape.now }
+    requires shape { IsRoots shape.now }
     requires whole { length contents.now ≡ cell_count shape.now }
     requires block { IsBlock shape.now block }
     requires place { (j < shape.now.n) × (k < shape.now.n) }
     ensures contents { result.now ≡ row_contents shape.now contents.now block j k }
     ensures length { length result.now ≡ shape.now.n }
 {
-    let first = place_of(
-        shape,
-        CellAt {
-            level: 0,
-            x: shape.n * block.x,
-            y: j,
-            z: k,
-        },
-    );
+    let first = place_of(shape, cell_in(shape, block, 0, j, k));
     &contents[first..first + shape.n as usize]
 }
 
 /// The cell at the place (i, j, k) of a root.
 pub fn cell_in(shape: &Shape, block: BlockAt, i: u32, j: u32, k: u32) -> CellAt
-    requires shape { IsRow shape.now }
+    requires shape { IsRoots shape.now }
     requires block { IsBlock shape.now block }
     requires place { (i < shape.now.n) × (j < shape.now.n) × (k < shape.now.n) }
     ensures value { result ≡ in_block shape.now.n block i j k }
@@ -130,7 +126,7 @@ fn sum_of(row: &[i64]) -> i128
 
 /// The sum of a row of a block's contents.
 fn row_total(shape: &Shape, contents: &[i64], block: BlockAt, j: u32, k: u32) -> i128
-    requires shape { IsRow shape.now }
+    requires shape { IsRoots shape.now }
     requires whole { length contents.now ≡ cell_count shape.now }
     requires block { IsBlock shape.now block }
     requires place { (j < shape.now.n) × (k < shape.now.n) }
@@ -142,7 +138,7 @@ fn row_total(shape: &Shape, contents: &[i64], block: BlockAt, j: u32, k: u32) ->
 
 /// The sum of a block's contents at the place k along z.
 fn plane_total(shape: &Shape, contents: &[i64], block: BlockAt, k: u32) -> i128
-    requires shape { IsRow shape.now }
+    requires shape { IsRoots shape.now }
     requires whole { length contents.now ≡ cell_count shape.now }
     requires block { IsBlock shape.now block }
     requires place { k < shape.now.n }
@@ -158,7 +154,7 @@ fn plane_total(shape: &Shape, contents: &[i64], block: BlockAt, k: u32) -> i128
 
 /// The sum of a block's contents.
 fn block_total(shape: &Shape, contents: &[i64], block: BlockAt) -> i128
-    requires shape { IsRow shape.now }
+    requires shape { IsRoots shape.now }
     requires whole { length contents.now ≡ cell_count shape.now }
     requires block { IsBlock shape.now block }
     ensures value { result ≡ block_sum shape.now.n (content_in shape.now contents.now) block }
@@ -171,28 +167,17 @@ fn block_total(shape: &Shape, contents: &[i64], block: BlockAt) -> i128
     sum
 }
 
-/// The root at x in the row of roots.
-pub fn root(x: u32) -> BlockAt
-    ensures { result ≡ record { level = 0; x = x; y = 0; z = 0 } }
-{
-    BlockAt {
-        level: 0,
-        x,
-        y: 0,
-        z: 0,
-    }
-}
-
-/// The sum of a variable's contents.
-pub fn total(shape: &Shape, contents: &[i64]) -> i128
-    requires shape { IsRow shape.now }
+/// The sum of a variable's contents. The tree has the roots of the domain as its leaves.
+pub fn total(shape: &Shape, tree: &Tree, contents: &[i64]) -> i128
+    requires shape { IsRoots shape.now }
+    requires tree { grid_of tree.now ≡ start_grid shape.now }
     requires whole { length contents.now ≡ cell_count shape.now }
     ensures value { result ≡ sum_over (block_sum shape.now.n (content_in shape.now contents.now)) (start_leaves shape.now) }
-    ensures small { Within (2 ^ 75) result }
+    ensures small { Within (2 ^ 85) result }
 {
     let mut sum: i128 = 0;
-    for x in 0..shape.rx {
-        sum += block_total(shape, contents, root(x));
+    for node in 0..tree.len() {
+        sum += block_total(shape, contents, tree.at(node));
     }
     sum
 }
@@ -234,13 +219,13 @@ fn lies_in_box(level: u32, low: [u32; 3], high: [u32; 3], cell: CellAt) -> bool
 
 /// The cell of level 0 at a place of a variable's contents.
 fn cell_of(shape: &Shape, place: usize) -> CellAt
-    requires shape { IsRow shape.now }
+    requires shape { IsRoots shape.now }
     requires place { place < cell_count shape.now }
     ensures cell { result ≡ cell_at shape.now place }
-    ensures near { (result.x < 4096) × (result.y < 4096) × (result.z < 4096) }
+    ensures near { (result.x < 262144) × (result.y < 262144) × (result.z < 262144) }
 {
-    let along_x = cells_along_x(shape) as usize;
-    let along_y = shape.n as usize;
+    let along_x = cells_along(shape, Axis::X) as usize;
+    let along_y = cells_along(shape, Axis::Y) as usize;
     CellAt {
         level: 0,
         x: (place % along_x) as u32,
@@ -259,7 +244,7 @@ pub fn fill_box(
     high: [u32; 3],
     value: i64,
 )
-    requires shape { IsRow shape.now }
+    requires shape { IsRoots shape.now }
     requires whole { length contents.old ≡ cell_count shape.now }
     requires level { level ≤ 10 }
     requires low { AllAtMost (2 ^ 20) low }

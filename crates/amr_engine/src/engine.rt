@@ -1,10 +1,9 @@
 use crate::advection::{Hindrance, try_step};
 use crate::contents::{fill_all, fill_box, total, zero_list, zero_outs, zeros};
 use crate::hierarchy::Hierarchy;
-use crate::line_text::LineText;
-use crate::report::{print_cells, print_total};
-use amr_report::{print_mesh, print_size, print_tree};
+use crate::values::CellValues;
 use amr_num::{BlockAt, OutOfMemory};
+use amr_report::{print_mesh, print_size, print_total, print_tree, print_var};
 use mesh_model::names::Names;
 use mesh_model::script::{Command, Declared, Group, Line};
 use mesh_model::stops::{LevelStop, RangeStop, Refusal, Spot};
@@ -50,7 +49,6 @@ pub struct Engine {
     outs: Vec<i128>,
     /// Room for what a step makes of a list of contents.
     next: Vec<i64>,
-    line: LineText,
     ghost uniform: { IsUniform declared (map (λ list. list.items) contents.items) outs.items },
     ghost limits: { KeepsLimits declared },
     ghost range: { InRange (uniform_mesh declared (map (λ list. list.items) contents.items) outs.items) },
@@ -59,11 +57,10 @@ pub struct Engine {
     ghost at_roots: { 0 < length declared.names.cells → grid_of hierarchy.tree ≡ start_grid declared.shape },
 }
 
-ghost use Rattle.block_tree.specs.GridOf.{grid_of};
-ghost use Rattle.mesh_model.specs.Start.{start_grid};
-
 ghost use Rattle.amr_engine.specs.Contents.{IsUniform, KeepsLimits, cell_count};
 ghost use Rattle.amr_engine.specs.UniformMesh.{uniform_mesh};
+ghost use Rattle.block_tree.specs.GridOf.{grid_of};
+ghost use Rattle.mesh_model.specs.Start.{start_grid};
 ghost use Rattle.mesh_model.specs.Valid.{InRange, ValidMesh};
 ghost use Rattle.std.specs.Prelude.{◌≡◌, ◌<◌, ◌^◌, MatchResult, Ok, Err, length, map};
 
@@ -119,9 +116,9 @@ fn written(printed: Result<(), Failed>) -> Result<(), Cause>
 
 impl Engine {
     ghost use Rattle.amr_engine.specs.Built.{IsBuiltLine, is_built_command};
-    ghost use Rattle.amr_engine.specs.Contents.{IsRow};
+    ghost use Rattle.amr_engine.specs.Contents.{IsRoots};
     ghost use Rattle.amr_engine.specs.Plain.{declared_of, plain, values_of};
-    ghost use Rattle.amr_engine.specs.Printing.{Prints};
+    ghost use Rattle.amr_report.specs.Printing.{Prints};
     ghost use Rattle.amr_engine.specs.Stopping.{Acts, Changes, IsCause, Regrows};
     ghost use Rattle.mesh_model.specs.Commands.{AreThree, IsBox, IsCellVariable, IsCommandOf, IsGroup, IsLeafNumber, IsLineOf};
     ghost use Rattle.mesh_model.specs.Fill.{fill_all as plain_fill_all, fill_box as plain_fill_box};
@@ -135,7 +132,7 @@ impl Engine {
 
     /// The start mesh of what was declared: all contents 0.
     pub fn new(alloc: Global, declared: Declared) -> Result<Engine, OutOfMemory>
-        requires row { IsRow declared.shape }
+        requires roots { IsRoots declared.shape }
         requires shape { IsShape declared.shape }
         requires groups { (declared.names.face ≡ None) × (declared.names.edge ≡ None) }
         requires few { length declared.names.cells ≤ 4 }
@@ -146,7 +143,6 @@ impl Engine {
         let contents = zeros(alloc, &declared.shape, variables)?;
         let outs = zero_outs(alloc, variables)?;
         let next = zero_list(alloc, &declared.shape)?;
-        let line = LineText::new(alloc)?;
         let hierarchy = Hierarchy::new(alloc, declared.shape)?;
         Ok(Engine {
             alloc,
@@ -155,7 +151,6 @@ impl Engine {
             contents,
             outs,
             next,
-            line,
         })
     }
 
@@ -231,9 +226,9 @@ impl Engine {
             Command::MarkDerefine { at } => self.mark_derefine(at),
             Command::Regrid => self.regrid(),
             Command::Advect { var, speeds } => self.advect(var, speeds),
-            Command::PrintSize => written(print_size(sink, self.hierarchy.tree())),
-            Command::PrintMesh => written(print_mesh(sink, self.hierarchy.tree())),
-            Command::PrintTree => written(print_tree(sink, self.hierarchy.tree())),
+            Command::PrintSize => written(print_size(sink, &self.hierarchy.tree)),
+            Command::PrintMesh => written(print_mesh(sink, &self.hierarchy.tree)),
+            Command::PrintTree => written(print_tree(sink, &self.hierarchy.tree)),
             Command::PrintVar { group } => written(self.print_variable(group, sink)),
             Command::Total { var } => written(self.print_total(var, sink)),
             _ => unreachable!(),
@@ -276,7 +271,7 @@ impl Engine {
         let shape = &self.declared.shape;
         let contents = &self.contents[var as usize];
         let out = self.outs[var as usize];
-        match try_step(shape, contents, out, speeds, &mut self.next) {
+        match try_step(shape, &self.hierarchy.tree, contents, out, speeds, &mut self.next) {
             Ok(out) => {
                 self.contents[var as usize].copy_from_slice(&self.next);
                 self.outs[var as usize] = out;
@@ -320,13 +315,20 @@ impl Engine {
         ensures hierarchy { self.new.hierarchy ≡ self.old.hierarchy }
     {
         match group {
-            Group::Cell(var) => print_cells(
-                sink,
-                &mut self.line,
-                &self.declared.shape,
-                self.declared.names.cell(var),
-                &self.contents[var as usize],
-            ),
+            Group::Cell(var) => {
+                let values = CellValues {
+                    shape: &self.declared.shape,
+                    tree: &self.hierarchy.tree,
+                    contents: &self.contents[var as usize],
+                };
+                print_var(
+                    sink,
+                    &self.hierarchy.tree,
+                    self.declared.names.cell(var),
+                    group,
+                    &values,
+                )
+            }
             Group::Face | Group::Edge => unreachable!(),
         }
     }
@@ -339,10 +341,13 @@ impl Engine {
         ensures declared { declared_of self.new ≡ declared_of self.old }
         ensures hierarchy { self.new.hierarchy ≡ self.old.hierarchy }
     {
-        let total = total(&self.declared.shape, &self.contents[var as usize]);
+        let total = total(
+            &self.declared.shape,
+            &self.hierarchy.tree,
+            &self.contents[var as usize],
+        );
         print_total(
             sink,
-            &mut self.line,
             self.declared.names.cell(var),
             total,
             self.outs[var as usize],

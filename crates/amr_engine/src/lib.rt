@@ -6,8 +6,7 @@ pub mod built;
 pub mod contents;
 pub mod engine;
 pub mod hierarchy;
-pub mod line_text;
-pub mod report;
+mod values;
 
 pub use mesh_model::names::Names;
 pub use mesh_model::script::{Command, Declared, Group, Line, Script};

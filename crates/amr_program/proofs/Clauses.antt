@@ -4,7 +4,7 @@ use Rattle.mesh_model.specs.Commands.{PlainScript}
 use Rattle.amr_engine.specs.Built.{is_built}
 use Rattle.mesh_model.specs.Grammar.{Fault, script_of}
 use Rattle.mesh_model.specs.Run.{Refused}
-use Rattle.outside_io.specs.Moved.{Rose, Takes, TakesPrefix}
+use Rattle.outside_io.specs.Moved.{Rose, Takes}
 use Rattle.amr_engine.specs.Stopping.{Written}
 use Rattle.mesh_model.specs.declared.stops.Refusal as stops
 use Rattle.mesh_model.specs.declared.stops.Refusal.TheVariants as why
@@ -14,9 +14,9 @@ use Rattle.amr_program.specs.declared.status.Status.TheVariants as status
 use Rattle.amr_program.specs.declared.program.TheConstants.{LIMIT}
 use Rattle.amr_program.specs.declared.refusal.Refusal.{Refusal}
 use Rattle.amr_program.specs.declared.refusal.Refusal.TheVariants as refusals
-use Rattle.amr_program.specs.Answer.{Answer, IsAccepted, IsAnswer, IsRefused, IsStoppedWith, MayPrint, TookBeforeMemory, TookPart, admitted, answer_of, first_texts, ending, plain_answer, read_in, script_in, status_of, stop_in}
+use Rattle.amr_program.specs.Answer.{IsAccepted, IsAnswer, IsRefused, IsStoppedWith, MayPrint, TookBeforeMemory, TookPart, admitted, answer_of, first_texts, ending, plain_answer, read_in, script_in, status_of, stop_in}
 use Rattle.amr_program.specs.Lines.{memory_line, read_line, words_line}
-use Rattle.amr_program.specs.Outcome.{Answered, Came, ByMemory, ByRead, ByScript, ByWords, Ended, Failed, Outcome, Source, Starved, Wrote, WrotePart}
+use Rattle.amr_program.specs.Outcome.{Ended, Failed, Outcome, Source, WrotePart}
 
 -- ---- facts of a value that may be there
 

@@ -1,7 +1,7 @@
 -- The commands of a run, one after the other.
 use Rattle.std.specs.List.{list_all}
 use Rattle.std.proofs.lemmas.List.Elements.{All-cons, All-nil}
-use Rattle.std.proofs.Common.{◌≡◌, ◌≢◌, ℕ, ◌≤◌, ◌==◌, eqb-true, is_none, Bool, true, false, ◌&&◌, if◌then◌else◌, All, zero, suc, ◌+◌, ◌<◌, ◌++◌, ◌⊎◌, List, [], ◌∷◌, Option, Some, None, Result, Ok, Err, IfSome, length, get_or, take, drop, inl, inr, refl, sym, ap, subst, ◌∙◌, arith, append_assoc, append-nil}
+use Rattle.std.proofs.Common.{◌≡◌, ℕ, ◌≤◌, is_none, Bool, true, false, ◌&&◌, if◌then◌else◌, All, zero, suc, ◌+◌, ◌<◌, ◌++◌, ◌⊎◌, List, [], ◌∷◌, Option, Some, None, Result, Ok, Err, IfSome, length, get_or, take, drop, inl, inr, refl, sym, ap, subst, ◌∙◌, arith, append_assoc, append-nil}
 use Rattle.std.proofs.Math.Seq.{take-suc}
 use Rattle.amr_num.specs.declared.Axis.{Axis}
 use Rattle.amr_num.specs.declared.Axis.TheVariants.{X, Y, Z}
@@ -11,7 +11,7 @@ use Rattle.script_lang.proofs.Scripts.{script_fits, script_in_limits}
 use Rattle.mesh_model.specs.declared.script.Command.{Command}
 use Rattle.mesh_model.specs.declared.stops.Refusal as stops
 use Rattle.mesh_model.specs.declared.stops.Refusal.TheVariants as why
-use Rattle.mesh_model.specs.Coordinates.{is_periodic_kind, side_index, side_kind}
+use Rattle.mesh_model.specs.Coordinates.{is_periodic_kind, roots, side_index, side_kind}
 use Rattle.mesh_model.specs.Grammar.{script_of}
 use Rattle.mesh_model.specs.Limits.{IsShape}
 use Rattle.mesh_model.specs.StopTexts.{stop_line}
@@ -24,13 +24,13 @@ use Rattle.mesh_model.specs.declared.script.Line.{Line}
 use Rattle.amr_engine.specs.declared.engine.Cause.{Cause}
 use Rattle.amr_engine.specs.declared.engine.Cause.TheVariants as causes
 use Rattle.amr_engine.specs.Stopping.{IsCause, Written}
-use Rattle.amr_engine.proofs.Printed.{part_within}
-use Rattle.amr_engine.specs.Contents.{IsRow}
+use Rattle.amr_report.proofs.Printed.{broke_within}
+use Rattle.amr_engine.specs.Contents.{IsRoots}
 use Rattle.amr_engine.specs.Built.{IsBuiltLine, is_built, is_built_mesh, is_built_command}
 use Rattle.mesh_model.specs.Commands.{InLimits, IsLineOf, PlainScript}
 use Rattle.mesh_model.specs.Grammar.{Fault}
 use Rattle.mesh_model.specs.Plain.{Mesh}
-use Rattle.outside_io.specs.Moved.{Rose, Takes, TakesPrefix}
+use Rattle.outside_io.specs.Moved.{Takes}
 use Rattle.outside_io.proofs.Moving.{takes_more}
 use Rattle.amr_program.specs.declared.status.Status.{Status}
 use Rattle.amr_program.specs.declared.status.Status.TheVariants as status
@@ -63,14 +63,14 @@ begun m lines = record { mesh = refl; done_so_far = refl; stops_later = refl }
 -- what a refusal, or none, makes of the commands that are left
 done_by : (now : Mesh) (line : Line) (rest : List Line) → refusal now line.command ≡ None → (done now (line ∷ rest) ≡ line ∷ done (mesh_after now line.command) rest) × (stop now (line ∷ rest) ≡ stop (mesh_after now line.command) rest)
 done_by now line rest none = (
-  ap (λ o. elim o [ | None ↦ line ∷ done (mesh_after now line.command) rest | Some w ↦ [] ]) none,
-  ap (λ o. elim o [ | None ↦ stop (mesh_after now line.command) rest | Some w ↦ Some (record { line = line.number; why = w }) ]) none,
+  ap (λ o. elim o [ None ↦ line ∷ done (mesh_after now line.command) rest | Some w ↦ [] ]) none,
+  ap (λ o. elim o [ None ↦ stop (mesh_after now line.command) rest | Some w ↦ Some (record { line = line.number; why = w }) ]) none,
 )
 
 stopped_by : (now : Mesh) (line : Line) (rest : List Line) (reason : stops.Refusal) → refusal now line.command ≡ Some reason → (done now (line ∷ rest) ≡ []) × (stop now (line ∷ rest) ≡ Some (record { line = line.number; why = reason }))
 stopped_by now line rest reason some = (
-  ap (λ o. elim o [ | None ↦ line ∷ done (mesh_after now line.command) rest | Some w ↦ [] ]) some,
-  ap (λ o. elim o [ | None ↦ stop (mesh_after now line.command) rest | Some w ↦ Some (record { line = line.number; why = w }) ]) some,
+  ap (λ o. elim o [ None ↦ line ∷ done (mesh_after now line.command) rest | Some w ↦ [] ]) some,
+  ap (λ o. elim o [ None ↦ stop (mesh_after now line.command) rest | Some w ↦ Some (record { line = line.number; why = w }) ]) some,
 )
 
 left_from : (lines : List Line) (i : ℕ) (d : Line) → i < length lines → drop i lines ≡ get_or lines i d ∷ drop (i + 1) lines
@@ -112,10 +112,10 @@ more_taken m now lines i d a b c h so_far before here =
     let line = get_or lines i d in
     let next : i + 1 ≡ suc i = omega arith in
     let texts_next : texts m (take i lines) ++ text_of now line.command ≡ texts m (take (i + 1) lines) =
-        ap (λ x. texts m (take i lines) ++ text_of x line.command) so_far.mesh
-        ∙ ap (λ t. texts m (take i lines) ++ t) (sym (append-nil (text_of (mesh_of m (take i lines)) line.command)))
-        ∙ sym (texts_append m (take i lines) (line ∷ []))
-        ∙ ap (texts m) (sym (ap (λ k. take k lines) next ∙ take-suc lines i d h)) in
+    ap (λ x. texts m (take i lines) ++ text_of x line.command) so_far.mesh
+    ∙ ap (λ t. texts m (take i lines) ++ t) (sym (append-nil (text_of (mesh_of m (take i lines)) line.command)))
+    ∙ sym (texts_append m (take i lines) (line ∷ []))
+    ∙ ap (texts m) (sym (ap (λ k. take k lines) next ∙ take-suc lines i d h)) in
     subst (λ t. Takes a t c) texts_next (takes_more a b c (texts m (take i lines)) (text_of now line.command) before here)
 
 -- the command at which a run stands is refused
@@ -125,8 +125,7 @@ stopped_here : (m now : Mesh) (lines : List Line) (i number : ℕ) (d : Line) (a
 stopped_here m now lines i number d a b c f g h l number_is so_far before calm reason some same quiet =
     let line = get_or lines i d in
     let here = stopped_by now line (drop (i + 1) lines) reason some in
-    let all : done m lines ≡ take i lines = so_far.done_so_far ∙ ap (λ ls. take i lines ++ done now ls) (left_from lines i d l) ∙ ap (λ ls. take i lines ++ ls) here.0 ∙ append-nil (take i lines) in
-    (
+    let all : done m lines ≡ take i lines = so_far.done_so_far ∙ ap (λ ls. take i lines ++ done now ls) (left_from lines i d l) ∙ ap (λ ls. take i lines ++ ls) here.0 ∙ append-nil (take i lines) in (
       so_far.stops_later ∙ ap (stop now) (left_from lines i d l) ∙ here.1 ∙ ap (λ n. Some (record { line = n; why = reason })) (sym number_is),
       record { takes = subst (λ x. Takes a (texts m (done m lines)) x) (sym same) (subst (λ t. Takes a t b) (ap (texts m) (sym all)) before); calm = quiet ∙ calm },
     )
@@ -146,11 +145,9 @@ run_stops causes.WriteFault m now lines i number d a b c f g h l number_is so_fa
     let after = mesh_after now line.command in
     let all : done m lines ≡ take i lines ++ line ∷ done after rest = so_far.done_so_far ∙ ap (λ ls. take i lines ++ done now ls) (left_from lines i d l) ∙ ap (λ ls. take i lines ++ ls) (done_by now line rest told.0).0 in
     let whole : texts m (done m lines) ≡ (texts m (take i lines) ++ text_of now line.command) ++ texts after (done after rest) =
-        ap (texts m) all ∙ texts_append m (take i lines) (line ∷ done after rest) ∙ ap (λ x. texts m (take i lines) ++ texts x (line ∷ done after rest)) (sym so_far.mesh) ∙ sym (append_assoc (texts m (take i lines)) (text_of now line.command) (texts after (done after rest))) in
-    record {
-      takes = part_within a b c (texts m (take i lines)) (text_of now line.command) (texts after (done after rest)) (texts m (done m lines)) before told.1 whole;
-      rose = subst (λ x. Rose x h) calm told.2;
-    }
+    ap (texts m) all ∙ texts_append m (take i lines) (line ∷ done after rest) ∙ ap (λ x. texts m (take i lines) ++ texts x (line ∷ done after rest)) (sym so_far.mesh) ∙ sym (append_assoc (texts m (take i lines)) (text_of now line.command) (texts after (done after rest))) in
+    let part = broke_within a b c (texts m (take i lines)) (text_of now line.command) (texts after (done after rest)) (texts m (done m lines)) f g h (before, calm) (told.1, told.2) whole in
+    record { takes = part.0; rose = part.1 }
 run_stops causes.OutOfMemory m now lines i number d a b c f g h l number_is so_far before calm told =
     let firsts : take i (done m lines) ≡ take i lines = ap (take i) so_far.done_so_far ∙ take_first (take i lines) (done now (drop i lines)) i (taken_length lines i (omega (arith, l))) in
     (i, record { takes = subst (λ t. Takes a t c) (ap (texts m) (sym firsts)) (subst (λ x. Takes a (texts m (take i lines)) x) (sym told.taken) before); calm = told.calm ∙ calm })
@@ -159,6 +156,7 @@ run_stops causes.OutOfMemory m now lines i number d a b c f g h l number_is so_f
     taken_length lines zero k = refl
     taken_length [] (suc i) k = absurd (omega arith)
     taken_length (line ∷ lines) (suc i) k = ap suc (taken_length lines i (omega arith))
+
     take_first : (xs ys : List Line) (n : ℕ) → length xs ≡ n → take n (xs ++ ys) ≡ xs
     take_first [] ys n e = subst (λ k. take k ys ≡ []) e refl
     take_first (x ∷ xs) ys zero e = absurd (omega (arith, e))
@@ -170,12 +168,9 @@ run_stops causes.OutOfMemory m now lines i number d a b c f g h l number_is so_f
 pub starved_after : (read : Result PlainScript Refusal) (k : ℕ) (result : Status) (a b c : Option (List ℕ)) (f g h : ℕ) → Takes a (first_texts read k) b → g ≡ f → Ended status.OutOfMemory memory_line result (record { before = b; after = c; faults = g; new_faults = h }) →
     Came read result (record { before = a; after = c; faults = f; new_faults = h })
 starved_after read k result a b c f g h before calm (inl e) = inr (inl (record { status_is = e.0; commands = k; wrote = record { takes = takes_more a b c (first_texts read k) memory_line before e.1.takes; calm = e.1.calm ∙ calm } }))
-starved_after read k result a b c f g h before calm (inr e) = inr (inr (record {
-  status_is = e.0;
-  text = first_texts read k ++ memory_line;
-  text_is = inr (k, refl);
-  wrote = record { takes = part_within a b c (first_texts read k) memory_line [] (first_texts read k ++ memory_line) before e.1.takes (sym (append-nil (first_texts read k ++ memory_line))); rose = subst (λ x. Rose x h) calm e.1.rose };
-}))
+starved_after read k result a b c f g h before calm (inr e) =
+    let part = broke_within a b c (first_texts read k) memory_line [] (first_texts read k ++ memory_line) f g h (before, calm) (e.1.takes, e.1.rose) (sym (append-nil (first_texts read k ++ memory_line))) in
+    inr (inr (record { status_is = e.0; text = first_texts read k ++ memory_line; text_is = inr (k, refl); wrote = record { takes = part.0; rose = part.1 } }))
 
 nothing_taken : (a : Option (List ℕ)) → Takes a [] a
 nothing_taken None = tt
@@ -220,15 +215,9 @@ came_done_from s m lines w m_is lines_are none wrote =
 
 -- the sink failed while the commands printed
 pub came_failed : (s : PlainScript) (w : Written) → WrotePart (texts (first_mesh s) (done_in s)) w → Came (Ok s) status.WriteFault w
-came_failed s w part = inr (inr (record {
-  status_is = refl;
-  text = (answer_of (Ok s)).text;
-  text_is = inl refl;
-  wrote = record {
-    takes = part_within w.before w.before w.after [] (texts (first_mesh s) (done_in s)) (ending s.declared.names (stop_in s)).text (answer_of (Ok s)).text (nothing_taken w.before) part.takes refl;
-    rose = part.rose;
-  };
-}))
+came_failed s w part =
+    let broke = broke_within w.before w.before w.after [] (texts (first_mesh s) (done_in s)) (ending s.declared.names (stop_in s)).text (answer_of (Ok s)).text w.faults w.faults w.new_faults (nothing_taken w.before, refl) (part.takes, part.rose) refl in
+    inr (inr (record { status_is = refl; text = (answer_of (Ok s)).text; text_is = inl refl; wrote = record { takes = broke.0; rose = broke.1 } }))
 
 -- a command was refused, and its line ended the run
 pub came_refused : (s : PlainScript) (line : ℕ) (reason : stops.Refusal) (result : Status) (a b c : Option (List ℕ)) (f g h : ℕ) → stop_in s ≡ Some (record { line = line; why = reason }) →
@@ -241,15 +230,10 @@ came_refused s line reason result a b c f g h some wrote (inl e) = inl (record {
     calm = e.1.calm ∙ wrote.calm;
   };
 })
-came_refused s line reason result a b c f g h some wrote (inr e) = inr (inr (record {
-  status_is = e.0;
-  text = (answer_of (Ok s)).text;
-  text_is = inl refl;
-  wrote = record {
-    takes = part_within a b c (texts (first_mesh s) (done_in s)) (stop_line s.declared.names line reason) [] (answer_of (Ok s)).text wrote.takes e.1.takes (ap (λ o. texts (first_mesh s) (done_in s) ++ (ending s.declared.names o).text) some ∙ sym (append-nil (texts (first_mesh s) (done_in s) ++ stop_line s.declared.names line reason)));
-    rose = subst (λ x. Rose x h) wrote.calm e.1.rose;
-  };
-}))
+came_refused s line reason result a b c f g h some wrote (inr e) =
+    let whole = ap (λ o. texts (first_mesh s) (done_in s) ++ (ending s.declared.names o).text) some ∙ sym (append-nil (texts (first_mesh s) (done_in s) ++ stop_line s.declared.names line reason)) in
+    let broke = broke_within a b c (texts (first_mesh s) (done_in s)) (stop_line s.declared.names line reason) [] (answer_of (Ok s)).text f g h (wrote.takes, wrote.calm) (e.1.takes, e.1.rose) whole in
+    inr (inr (record { status_is = e.0; text = (answer_of (Ok s)).text; text_is = inl refl; wrote = record { takes = broke.0; rose = broke.1 } }))
 
 -- how a run that stopped ends
 pub came_stopped : (s : PlainScript) (cause : Cause) (line : ℕ) (result : Status) (a b c : Option (List ℕ)) (f g h : ℕ) →
@@ -289,22 +273,27 @@ none_there (Some x) h = absurd (cc)
 
 pub built_names : (d : Declared) → is_built_mesh d ≡ true → (d.names.face ≡ None) × (d.names.edge ≡ None)
 unfolding is_built_mesh
-built_names d h = (none_there d.names.face (both _ _ (both _ _ h).0).1, none_there d.names.edge (both _ _ h).1)
+built_names d h = (none_there d.names.face (both _ _ h).0, none_there d.names.edge (both _ _ h).1)
 
-pub built_row : (d : Declared) → InLimits d → is_built_mesh d ≡ true → IsRow d.shape
-unfolding is_built_mesh
-built_row d limits h =
-    let one : ((d.shape.ry == 1) ≡ true) × ((d.shape.rz == 1) ≡ true) = both _ _ (both _ _ (both _ _ h).0).0 in
+pub roots_of : (d : Declared) → InLimits d → IsRoots d.shape
+roots_of d limits =
     let n : (d.shape.n ≡ 4) ⊎ (d.shape.n ≡ 8) = limits.shape.n in
-    let x : (1 ≤ d.shape.rx) × (d.shape.rx ≤ 8) = limits.shape.rx in
     record {
       some_cells = elim n [ inl e ↦ omega arith | inr e ↦ omega arith ];
       few_cells = elim n [ inl e ↦ omega arith | inr e ↦ omega arith ];
-      some_roots = x.0;
-      few_roots = x.1;
-      y = eqb-true _ _ one.0;
-      z = eqb-true _ _ one.1;
+      some = some_on;
+      few = few_on;
     }
+  where
+    some_on : (a : Axis) → 0 < roots d.shape a
+    some_on X = limits.shape.rx.0
+    some_on Y = limits.shape.ry.0
+    some_on Z = limits.shape.rz.0
+
+    few_on : (a : Axis) → roots d.shape a ≤ 8
+    few_on X = limits.shape.rx.1
+    few_on Y = limits.shape.ry.1
+    few_on Z = limits.shape.rz.1
 
 side_kind_is : (sides : List SideKind) (k : ℕ) → side_kind sides k ≡ get_or sides k Periodic
 side_kind_is [] k = refl
@@ -330,6 +319,7 @@ shape_of d limits = record {
   where
     same : (a b : ℕ) → is_periodic_kind (get_or d.shape.sides a Periodic) ≡ is_periodic_kind (get_or d.shape.sides b Periodic) → is_periodic_kind (side_kind d.shape.sides a) ≡ is_periodic_kind (side_kind d.shape.sides b)
     same a b e = ap is_periodic_kind (side_kind_is d.shape.sides a) ∙ e ∙ ap is_periodic_kind (sym (side_kind_is d.shape.sides b))
+
     paired : (a : Axis) → is_periodic_kind (side_kind d.shape.sides (side_index a)) ≡ is_periodic_kind (side_kind d.shape.sides (suc (side_index a)))
     paired X = same 0 1 limits.shape.sides.x
     paired Y = same 2 3 limits.shape.sides.y

@@ -1,16 +1,15 @@
 -- The line that a refused command ends a run with, word by word.
-use Rattle.std.proofs.Common.{◌≡◌, ℕ, suc, ◌+◌, ◌<◌, ℤ, get_or, take, arith, List, [], ◌∷◌, ◌++◌, length, map, codes, decimal, sym, ap, ap₂, ◌∙◌, refl, append_assoc, append-nil}
+use Rattle.std.proofs.Common.{◌≡◌, ℕ, suc, ◌+◌, ◌<◌, ℤ, get_or, take, arith, List, [], ◌∷◌, ◌++◌, length, map, codes, decimal, sym, ap, ◌∙◌, append_assoc, append-nil}
 use Rattle.std.proofs.Math.Seq.{take-suc}
 use Rattle.std.proofs.lemmas.Grind.{flat_map-append}
 use Rattle.std.proofs.lemmas.List.{map-append}
-use Rattle.std.specs.Prelude.{flat_map}
 use Rattle.std.specs.Fmt.{signed_decimal}
 use Rattle.std.specs.List.{join_with_byte}
 use Rattle.mesh_model.specs.VariableNames.{VariableNames}
 use Rattle.mesh_model.specs.declared.stops.Refusal as stops
 use Rattle.mesh_model.specs.StopTexts.{refusal_words, stop_line}
-use Rattle.mesh_model.specs.Texts.{text_line}
-use Rattle.amr_engine.specs.LineWords.{more_words, with_word}
+use Rattle.amr_report.specs.Printing.{with_word}
+use Rattle.amr_program.specs.Lines.{more_words}
 
 -- words joined by spaces are the first, and then each other after a space
 joined : (word : List ℕ) (words : List (List ℕ)) → join_with_byte 32 (word ∷ words) ≡ word ++ more_words words

@@ -1,5 +1,5 @@
 -- The plain answer: what a run answers and prints, as a function of its words and of the bytes of its source.
-use Rattle.std.specs.Prelude.{◌≡◌, ℕ, true, false, if◌then◌else◌, List, [], ◌∷◌, ◌++◌, Option, Some, None, Result, Ok, Err, ◌⊎◌, IfSome, length, take, ◌≤◌}
+use Rattle.std.specs.Prelude.{◌≡◌, ℕ, true, false, if◌then◌else◌, List, [], ◌∷◌, ◌++◌, Option, Some, None, Result, Ok, Err, ◌⊎◌, take}
 use Rattle.amr_engine.specs.Built.{is_built}
 use Rattle.mesh_model.specs.Commands.{PlainScript}
 use Rattle.mesh_model.specs.Grammar.{Fault, script_of}

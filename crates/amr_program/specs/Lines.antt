@@ -1,5 +1,5 @@
 -- The last lines that a run writes.
-use Rattle.std.specs.Prelude.{ℕ, List, ◌++◌, codes, decimal}
+use Rattle.std.specs.Prelude.{ℕ, List, ◌∷◌, ◌++◌, codes, decimal, flat_map}
 use Rattle.mesh_model.specs.Texts.{reason_text}
 use Rattle.amr_program.specs.declared.refusal.Refusal.{Refusal}
 use Rattle.amr_program.specs.declared.refusal.Refusal.TheVariants.{Fault, NotBuilt}
@@ -17,3 +17,7 @@ read_line = codes "error: read failed\n"
 
 abbrev pub memory_line : List ℕ
 memory_line = codes "error: out of memory\n"
+
+-- words, a space before each
+abbrev pub more_words : List (List ℕ) → List ℕ
+more_words = flat_map (λ word. 32 ∷ word)

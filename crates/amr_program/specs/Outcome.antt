@@ -16,7 +16,7 @@ use Rattle.amr_program.specs.declared.status.Status.{Status}
 use Rattle.amr_program.specs.declared.status.Status.TheVariants as status
 use Rattle.amr_program.specs.declared.program.TheConstants.{LIMIT}
 use Rattle.amr_program.specs.declared.refusal.Refusal.{Refusal}
-use Rattle.amr_program.specs.Answer.{Answer, admitted, answer_of, first_texts, status_of}
+use Rattle.amr_program.specs.Answer.{admitted, answer_of, first_texts, status_of}
 use Rattle.amr_program.specs.Lines.{memory_line, read_line, words_line}
 
 -- the text was written, without a fault

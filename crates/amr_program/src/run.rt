@@ -7,22 +7,21 @@ ghost use Rattle.mesh_model.specs.Commands.{InLimits, IsLineOf, plain_script};
 ghost use Rattle.mesh_model.specs.Grammar.{script_of};
 ghost use Rattle.mesh_model.specs.Run.{done, stop, texts};
 ghost use Rattle.mesh_model.specs.StopTexts.{stop_line};
-ghost use Rattle.std.specs.Prelude.{◌≡◌, true, All, IfErr, IfOk, OnOk, None, Ok, Err};
+ghost use Rattle.std.specs.Prelude.{◌≡◌, true, All, IfErr, OnOk, None, Ok, Err};
 
 use crate::refusal::Refusal;
 use crate::status::Status;
-use crate::stop_line::write_stop;
+use crate::stop_line::stop_text;
 use amr_engine::built::built;
 use amr_engine::engine::{Cause, Engine, Stop};
-use amr_engine::line_text::LineText;
-use amr_num::OutOfMemory;
+use amr_report::Line;
 use mesh_model::names::Names;
 use mesh_model::script::Reason;
 use mesh_model::stops;
 use outside_io::disk::Disk;
 use outside_io::sink::{Sink, write_all};
 use script_lang::reader::{ScriptStop, read_script};
-use script_lang::{Line, Script};
+use script_lang::{Line as ScriptLine, Script};
 use std::alloc::Global;
 
 /// What is written where the words are refused.
@@ -58,7 +57,7 @@ pub fn end<K: Sink>(sink: &mut K, line: &str, status: Status) -> Status
 /// Does the commands of the lines in order, up to the first that stops.
 fn run<K: Sink, D: Disk>(
     engine: &mut Engine,
-    lines: &[Line],
+    lines: &[ScriptLine],
     sink: &mut K,
     disk: &mut D,
 ) -> Result<(), Stop>
@@ -77,25 +76,19 @@ fn run<K: Sink, D: Disk>(
 }
 
 /// Writes the last line of a run that a refused command ends.
-fn end_refused<K: Sink>(
-    sink: &mut K,
-    text: &mut LineText,
-    names: &Names,
-    line: u32,
-    why: stops::Refusal,
-) -> Status
+fn end_refused<K: Sink>(sink: &mut K, names: &Names, line: u32, why: stops::Refusal) -> Status
     ensures { Ended (status_of why) (stop_line names.now line why) result (record { before = K.taken sink.old; after = K.taken sink.new; faults = K.faults sink.old; new_faults = K.faults sink.new }) }
 {
-    write_stop(text, names, line, why);
+    let text = stop_text(names, line, why);
     end_with(sink, text.as_bytes(), Status::of_refusal(why))
 }
 
 /// Ends a run that is stopped.
-fn end_stopped<K: Sink>(engine: &Engine, text: &mut LineText, stop: Stop, sink: &mut K) -> Status
+fn end_stopped<K: Sink>(engine: &Engine, stop: Stop, sink: &mut K) -> Status
     ensures { Stopped stop.cause stop.line (declared_of engine.now).names result (record { before = K.taken sink.old; after = K.taken sink.new; faults = K.faults sink.old; new_faults = K.faults sink.new }) }
 {
     match stop.cause.refusal() {
-        Some(why) => end_refused(sink, text, engine.names(), stop.line, why),
+        Some(why) => end_refused(sink, engine.names(), stop.line, why),
         None => match stop.cause {
             Cause::OutOfMemory => end(sink, MEMORY_LINE, Status::OutOfMemory),
             _ => Status::WriteFault,
@@ -112,43 +105,37 @@ fn run_script<K: Sink, D: Disk>(alloc: Global, script: Script, sink: &mut K, dis
     ensures disk { disk.new ≡ disk.old }
 {
     let Script { declared, lines } = script;
-    // The room for the last line is taken first, so that a run that is stopped wants no memory.
-    let mut text = match LineText::new(alloc) {
-        Ok(text) => text,
-        Err(_) => return end(sink, MEMORY_LINE, Status::OutOfMemory),
-    };
     let mut engine = match Engine::new(alloc, declared) {
         Ok(engine) => engine,
         Err(_) => return end(sink, MEMORY_LINE, Status::OutOfMemory),
     };
     match run(&mut engine, &lines, sink, disk) {
         Ok(()) => Status::Done,
-        Err(stop) => end_stopped(&engine, &mut text, stop, sink),
+        Err(stop) => end_stopped(&engine, stop, sink),
     }
 }
 
 /// The line that names a fault of the script.
-fn fault_line(alloc: Global, line: u32, reason: Reason) -> Result<LineText, OutOfMemory>
-    ensures { IfOk result (λ text. text ≡ refusal_line (Refusal.Fault line reason)) }
+fn fault_line(line: u32, reason: Reason) -> Line
+    ensures { result ≡ refusal_line (Refusal.Fault line reason) }
 {
-    let mut text = LineText::new(alloc)?;
-    text.begin("error: script line");
+    let mut text = Line::begin("error: script line");
     text.push_number(line);
     text.push_text(":");
     text.push_word(reason.text());
     text.end();
-    Ok(text)
+    text
 }
 
 /// Says why the script is not run.
-fn refuse<K: Sink>(alloc: Global, refusal: Refusal, sink: &mut K) -> Status
+fn refuse<K: Sink>(refusal: Refusal, sink: &mut K) -> Status
     ensures { Came (Err refusal) result (record { before = K.taken sink.old; after = K.taken sink.new; faults = K.faults sink.old; new_faults = K.faults sink.new }) }
 {
     match refusal {
-        Refusal::Fault { line, reason } => match fault_line(alloc, line, reason) {
-            Ok(text) => end_with(sink, text.as_bytes(), Status::Script),
-            Err(_) => end(sink, MEMORY_LINE, Status::OutOfMemory),
-        },
+        Refusal::Fault { line, reason } => {
+            let text = fault_line(line, reason);
+            end_with(sink, text.as_bytes(), Status::Script)
+        }
         Refusal::NotBuilt => end(sink, NOT_BUILT_LINE, Status::Script),
     }
 }
@@ -165,10 +152,8 @@ pub fn answer_script<K: Sink, D: Disk>(
 {
     match read_script(alloc, None, bytes) {
         Ok(script) if built(&script, 1, 1) => run_script(alloc, script, sink, disk),
-        Ok(_) => refuse(alloc, Refusal::NotBuilt, sink),
-        Err(ScriptStop::Fault { line, reason }) => {
-            refuse(alloc, Refusal::Fault { line, reason }, sink)
-        }
+        Ok(_) => refuse(Refusal::NotBuilt, sink),
+        Err(ScriptStop::Fault { line, reason }) => refuse(Refusal::Fault { line, reason }, sink),
         Err(ScriptStop::OutOfMemory) => end(sink, MEMORY_LINE, Status::OutOfMemory),
     }
 }

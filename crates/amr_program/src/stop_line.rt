@@ -1,12 +1,12 @@
-ghost use Rattle.amr_engine.specs.LineWords.{more_words};
+ghost use Rattle.amr_program.specs.Lines.{more_words};
 ghost use Rattle.mesh_model.specs.StopTexts as plain;
 ghost use Rattle.mesh_model.specs.StopTexts.{refusal_words, spot_words};
 ghost use Rattle.mesh_model.specs.Texts as texts;
 ghost use Rattle.std.specs.Fmt.{signed_decimal};
 ghost use Rattle.std.specs.Prelude.{◌≡◌, ◌+◌, ◌≤◌, [], ◌∷◌, ◌++◌, decimal, length, map};
 
-use amr_engine::line_text::LineText;
 use amr_num::Axis;
+use amr_report::Line;
 use mesh_model::names::Names;
 use mesh_model::script::Group;
 use mesh_model::stops::{Refusal, Spot};
@@ -42,7 +42,7 @@ fn group_name(names: &Names, group: Group) -> &str
 }
 
 /// Adds a level and three coordinates.
-fn push_place(text: &mut LineText, level: u32, x: u32, y: u32, z: u32)
+fn push_place(text: &mut Line, level: u32, x: u32, y: u32, z: u32)
     requires { length text.old ≤ 256 }
     ensures text { text.new ≡ text.old ++ more_words (decimal level ∷ decimal x ∷ decimal y ∷ decimal z ∷ []) }
     ensures short { length text.new ≤ length text.old + 44 }
@@ -54,7 +54,7 @@ fn push_place(text: &mut LineText, level: u32, x: u32, y: u32, z: u32)
 }
 
 /// Adds the place at which a number stands.
-fn push_spot(text: &mut LineText, spot: Spot)
+fn push_spot(text: &mut Line, spot: Spot)
     requires { length text.old ≤ 200 }
     ensures text { text.new ≡ text.old ++ more_words (spot_words spot) }
     ensures short { length text.new ≤ length text.old + 51 }
@@ -79,7 +79,7 @@ fn push_spot(text: &mut LineText, spot: Spot)
 }
 
 /// Adds up to three numbers.
-fn push_numbers(text: &mut LineText, numbers: &[i64])
+fn push_numbers(text: &mut Line, numbers: &[i64])
     requires room { length text.old ≤ 256 }
     requires few { length numbers.now ≤ 3 }
     ensures text { text.new ≡ text.old ++ more_words (map signed_decimal numbers.now) }
@@ -91,7 +91,7 @@ fn push_numbers(text: &mut LineText, numbers: &[i64])
 }
 
 /// Adds why a command is refused.
-fn push_refusal(text: &mut LineText, names: &Names, why: Refusal)
+fn push_refusal(text: &mut Line, names: &Names, why: Refusal)
     requires { length text.old ≤ 100 }
     ensures text { text.new ≡ text.old ++ more_words (refusal_words names.now why) }
     ensures short { length text.new ≤ length text.old + 200 }
@@ -129,14 +129,15 @@ fn push_refusal(text: &mut LineText, names: &Names, why: Refusal)
     }
 }
 
-/// Writes the line that a run ends with where the command of a line is refused.
-pub fn write_stop(text: &mut LineText, names: &Names, line: u32, why: Refusal)
-    ensures { text.new ≡ plain.stop_line names.now line why }
+/// The line that a run ends with where the command of a line is refused.
+pub fn stop_text(names: &Names, line: u32, why: Refusal) -> Line
+    ensures { result ≡ plain.stop_line names.now line why }
 {
-    text.begin("error:");
+    let mut text = Line::begin("error:");
     text.push_word("line");
     text.push_number(line);
     text.push_text(":");
-    push_refusal(text, names, why);
+    push_refusal(&mut text, names, why);
     text.end();
+    text
 }

@@ -138,7 +138,7 @@ const REFUSED: [(&[u8], &[u8]); 4] = [
         b"domain 1 1 1\nfill all 2\nend\n",
         b"error: script line 2: wrong number of words\n",
     ),
-    (b"domain 1 2 1\nend\n", b"error: not built\n"),
+    (b"domain 1 2 1\nfacevar f\nend\n", b"error: not built\n"),
     (b"domain 1 1 1\nregrid\nend\n", b"error: not built\n"),
 ];
 
@@ -148,6 +148,29 @@ fn says_why_a_script_is_not_run(rt: HostRuntime) -> Result<(), Fail> {
         let (status, sink) = run(rt.alloc(), &[], script, QUIET)?;
         assert_eq!(rt; status, Status::Script);
         assert_eq!(rt; sink.taken(), line);
+    }
+    Ok(())
+}
+
+/// Two by two roots, of which each has another number.
+const FOUR_ROOTS: &[u8] =
+    b"domain 2 2 1\ncells 4 1\ncellvar u\nfill u box 0 4 0 0 8 4 4 1\nfill u box 0 0 4 0 4 8 4 2\nfill u box 0 4 4 0 8 8 4 3\nprint u\ntotal u\nend\n";
+
+#[test]
+fn blocks_go_in_morton_order(rt: HostRuntime) -> Result<(), Fail> {
+    let (status, sink) = run(rt.alloc(), &[], FOUR_ROOTS, QUIET)?;
+    assert_eq!(rt; status, Status::Done);
+    // A block has a head line of 21 bytes and 16 rows of 8 bytes.
+    let table = [
+        (0, b"cell u block 0 0 0 0\n0 0 0 0\n".as_slice()),
+        (149, b"cell u block 0 1 0 0\n1 1 1 1\n".as_slice()),
+        (298, b"cell u block 0 0 1 0\n2 2 2 2\n".as_slice()),
+        (447, b"cell u block 0 1 1 0\n3 3 3 3\n".as_slice()),
+        (596, b"total u 384 out 0\n".as_slice()),
+    ];
+    for (place, text) in table {
+        let rest = sink.taken().get(place..).unwrap_or(&[]);
+        assert!(rt; rest.starts_with(text), "at byte {place}");
     }
     Ok(())
 }

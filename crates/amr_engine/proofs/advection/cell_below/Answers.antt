@@ -1,5 +1,4 @@
 use Rattle.std.proofs.Common.{◌≡◌, ◌<◌, ◌-◌, false, true, sym, ap, ◌∙◌, arith, if◌then◌else◌}
-use Rattle.mesh_model.specs.Advect.{below_or}
 use Rattle.mesh_model.specs.Coordinates.{extent, is_periodic, on, with}
 use Rattle.amr_engine.proofs.Fluxes.{below_first, below_later}
 use Rattle.amr_engine.proofs.advection.cell_below.Goals as goal

@@ -1,4 +1,4 @@
-use Rattle.std.proofs.Common.{◌≡◌, ◌+ℤ◌, ◌-ℤ◌, ap₂, ◌∙◌}
+use Rattle.std.proofs.Common.{◌+ℤ◌, ◌-ℤ◌, ap₂, ◌∙◌}
 use Rattle.amr_engine.proofs.Machine.{out_told}
 use Rattle.amr_engine.proofs.advection.flowed_out.Goals as goal
 

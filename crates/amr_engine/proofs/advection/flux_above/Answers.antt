@@ -1,4 +1,4 @@
-use Rattle.std.proofs.Common.{◌≡◌, ◌+◌, ◌^◌, ◌<◌, suc, Bool, true, false, ◌&&◌, ◌==◌, sym, ap, ap₂, ◌∙◌, subst, arith}
+use Rattle.std.proofs.Common.{◌≡◌, ◌+◌, ◌^◌, suc, ◌&&◌, ◌==◌, sym, ap, ap₂, ◌∙◌, subst, arith}
 use Rattle.amr_num.specs.Numbers.{Within}
 use Rattle.amr_num.proofs.Machine.{kept}
 use Rattle.mesh_model.specs.Advect.{is_closed_kind, speed}
@@ -33,4 +33,4 @@ returns-clause-value c =
     told ∙ ap (λ v. flux_between 0 v c.content-low.result c.content-high.result c.if-last.closed) c.speed_along.ensures.value
     ∙ ap₂ (λ u v. flux_between 0 (speed (three c.args.speeds) a) u v c.if-last.closed) c.content-low.ensures.value high
     ∙ ap (flux_between 0 (speed (three c.args.speeds) a) _ _) closed
-    ∙ sym (high_flux s contents c.args.speeds a c.args.cell c.requires.step.row c.requires.cell c.requires.step.limits)
+    ∙ sym (high_flux s contents c.args.speeds a c.args.cell c.requires.step.roots c.requires.cell c.requires.step.limits)

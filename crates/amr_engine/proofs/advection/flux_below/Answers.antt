@@ -1,4 +1,4 @@
-use Rattle.std.proofs.Common.{◌≡◌, ◌^◌, ◌<◌, Bool, false, ◌&&◌, ◌==◌, sym, ap, ap₂, ◌∙◌, subst, arith}
+use Rattle.std.proofs.Common.{◌≡◌, ◌^◌, ◌&&◌, ◌==◌, sym, ap, ap₂, ◌∙◌, subst, arith}
 use Rattle.amr_num.specs.Numbers.{Within}
 use Rattle.amr_num.proofs.Machine.{kept}
 use Rattle.mesh_model.specs.Advect.{is_closed_kind, speed}
@@ -32,4 +32,4 @@ returns-clause-value c =
     told ∙ ap (λ v. flux_between 0 v c.content-low.result c.content-high.result c.if-place-eq0.closed) c.speed_along.ensures.value
     ∙ ap₂ (λ u v. flux_between 0 (speed (three c.args.speeds) a) u v c.if-place-eq0.closed) low c.content-high.ensures.value
     ∙ ap (flux_between 0 (speed (three c.args.speeds) a) _ _) closed
-    ∙ sym (low_flux s contents c.args.speeds a c.args.cell c.requires.step.row c.requires.cell)
+    ∙ sym (low_flux s contents c.args.speeds a c.args.cell c.requires.step.roots c.requires.cell)

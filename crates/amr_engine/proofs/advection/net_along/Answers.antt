@@ -1,4 +1,4 @@
-use Rattle.std.proofs.Common.{◌≡◌, ◌^◌, ◌-ℤ◌, sym, ap₂, ◌∙◌, subst}
+use Rattle.std.proofs.Common.{◌^◌, ◌-ℤ◌, sym, ap₂, ◌∙◌, subst}
 use Rattle.amr_num.specs.Numbers.{Within}
 use Rattle.amr_engine.proofs.Machine.{difference, difference_told}
 use Rattle.amr_engine.proofs.advection.net_along.Goals as goal

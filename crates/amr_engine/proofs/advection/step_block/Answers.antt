@@ -1,14 +1,9 @@
-use Rattle.std.proofs.Common.{◌≡◌, List, [], ◌∷◌, Ok, Err, map, sym, ap, subst, arith}
+use Rattle.std.proofs.Common.{List, map, arith}
 use Rattle.std.proofs.lemmas.Result.{err_from_is_err_and}
 use Rattle.std.specs.List.{range_with_len}
 use Rattle.std.specs.Prelude.{flat_map, ℕ}
 use Rattle.amr_num.specs.declared.CellAt.{CellAt}
-use Rattle.mesh_model.specs.RangeWalk.{block_cells}
 use Rattle.mesh_model.specs.Texts.{in_block}
-use Rattle.mesh_model.proofs.Roots.{root_of_row}
-use Rattle.amr_engine.specs.Stepping.{Steps}
-use Rattle.amr_engine.proofs.Ranges.{map_singles}
-use Rattle.amr_engine.proofs.Rows.{flat_by_row}
 use Rattle.amr_engine.proofs.Stepped.{all_done, one_more, stopped_at}
 use Rattle.amr_engine.proofs.advection.step_block.Goals as goal
 

@@ -1,10 +1,7 @@
-use Rattle.std.proofs.Common.{List, ◌∷◌, [], Ok, map}
+use Rattle.std.proofs.Common.{◌∷◌, [], Ok}
 use Rattle.std.specs.Prelude.{flat_map}
 use Rattle.std.specs.List.{range_with_len}
-use Rattle.amr_num.specs.declared.CellAt.{CellAt}
 use Rattle.mesh_model.specs.Texts.{in_block}
-use Rattle.mesh_model.specs.RangeWalk.{block_cells}
-use Rattle.mesh_model.proofs.Roots.{root_of_row}
 use Rattle.amr_engine.specs.Stepping.{Steps}
 use Rattle.amr_engine.proofs.advection.step_row.Given as goal
 

@@ -1,4 +1,4 @@
-use Rattle.std.proofs.Common.{◌≡◌, [], Err, IfSome, Some, map, drop, ap, subst, sym, inl, inr, arith, ◌∙◌}
+use Rattle.std.proofs.Common.{◌≡◌, [], Err, IfSome, Some, map, drop, ap, subst, inl, inr, arith, ◌∙◌}
 use Rattle.std.proofs.lemmas.Grind.{common_steps}
 use Rattle.std.specs.Prelude.{string_bytes}
 use Rattle.amr_program.specs.declared.program.TheConstants.{LIMIT}

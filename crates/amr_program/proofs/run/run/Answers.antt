@@ -1,6 +1,6 @@
 use Rattle.std.proofs.Common.{◌∙◌, arith}
 use Rattle.std.proofs.lemmas.Result.{err_from_is_err_and}
-use Rattle.amr_program.proofs.Commands.{all_done, begun, goes_on, more_taken, run_stops}
+use Rattle.amr_program.proofs.Commands.{goes_on, more_taken, run_stops}
 use Rattle.amr_program.proofs.run.run.Goals as goal
 
 pub returns-in_err-command-clause-stops : goal.returns-in_err-command-clause-stops

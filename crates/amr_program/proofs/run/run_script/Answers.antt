@@ -1,29 +1,26 @@
-use Rattle.std.proofs.Common.{◌≡◌, All, Ok, subst, sym, ap, ◌∙◌}
+use Rattle.std.proofs.Common.{All, Ok, subst, sym, ap, ◌∙◌}
 use Rattle.mesh_model.specs.Commands.{plain_script}
 use Rattle.amr_engine.specs.Built.{IsBuiltLine}
 use Rattle.amr_engine.specs.Plain.{declared_of, plain}
 use Rattle.amr_engine.specs.Stopping.{Written}
 use Rattle.amr_program.specs.Outcome.{Stopped}
-use Rattle.amr_program.proofs.Commands.{at_start, built_lines, built_mesh, built_names, built_row, came_done_from, came_stopped, shape_of, starved_first}
+use Rattle.amr_program.proofs.Commands.{at_start, built_lines, built_mesh, built_names, came_done_from, came_stopped, roots_of, shape_of, starved_first}
 use Rattle.amr_program.proofs.run.run_script.Goals as goal
 
 pub returns-in-Err-clause-came : goal.returns-in-Err-clause-came
 returns-in-Err-clause-came g c = starved_first _ _ _ c.end.ensures
 
-pub returns-in-Err-new-clause-came : goal.returns-in-Err-new-clause-came
-returns-in-Err-new-clause-came g c = starved_first _ _ _ c.end-in-Err-new.ensures
+pub new-requires-clause-roots : goal.new-requires-clause-roots
+new-requires-clause-roots g c = roots_of _ c.requires.limits
 
-pub new-requires-2-clause-row : goal.new-requires-2-clause-row
-new-requires-2-clause-row g c = built_row _ c.requires.limits (built_mesh (plain_script c.args.script) c.requires.built)
+pub new-requires-clause-shape : goal.new-requires-clause-shape
+new-requires-clause-shape g c = shape_of c.args.script.declared c.requires.limits
 
-pub new-requires-2-clause-shape : goal.new-requires-2-clause-shape
-new-requires-2-clause-shape g c = shape_of c.args.script.declared c.requires.limits
-
-pub new-requires-2-clause-groups : goal.new-requires-2-clause-groups
-new-requires-2-clause-groups g c = built_names _ (built_mesh (plain_script c.args.script) c.requires.built)
+pub new-requires-clause-groups : goal.new-requires-clause-groups
+new-requires-clause-groups g c = built_names _ (built_mesh (plain_script c.args.script) c.requires.built)
 
 pub run-requires-clause-built : goal.run-requires-clause-built
-run-requires-clause-built g c = subst (All (IsBuiltLine (declared_of c.in-Ok-new.engine))) (sym c.deref.ensures.value) (subst (λ d. All (IsBuiltLine d) c.args.script.lines.items) (sym c.in-Ok-new.ensures.declared) (built_lines (plain_script c.args.script) c.requires.built))
+run-requires-clause-built g c = subst (All (IsBuiltLine (declared_of c.in-Ok.engine))) (sym c.deref.ensures.value) (subst (λ d. All (IsBuiltLine d) c.args.script.lines.items) (sym c.in-Ok.ensures.declared) (built_lines (plain_script c.args.script) c.requires.built))
 
 pub returns-clause-came : goal.returns-clause-came
 returns-clause-came g c =
@@ -31,12 +28,12 @@ returns-clause-came g c =
     let stop = c.in-Err-run.stop in
     let w : Written = record { before = g.K.Sink.taken c.args.sink.now; after = g.K.Sink.taken c.run.new.sink; faults = g.K.Sink.faults c.args.sink.now; new_faults = g.K.Sink.faults c.run.new.sink } in
     let ended : Written = record { before = g.K.Sink.taken c.run.new.sink; after = g.K.Sink.taken c.end_stopped.new.sink; faults = g.K.Sink.faults c.run.new.sink; new_faults = g.K.Sink.faults c.end_stopped.new.sink } in
-    let stops = at_start s stop.cause stop.line (plain c.in-Ok-new.engine) c.deref.result.now w c.in-Ok-new.ensures.mesh c.deref.ensures.value c.in-Err-run.ensures.stops in
-    let names = ap (λ d. d.names) (c.in-Err-run.ensures.names ∙ c.in-Ok-new.ensures.declared) in
+    let stops = at_start s stop.cause stop.line (plain c.in-Ok.engine) c.deref.result.now w c.in-Ok.ensures.mesh c.deref.ensures.value c.in-Err-run.ensures.stops in
+    let names = ap (λ d. d.names) (c.in-Err-run.ensures.names ∙ c.in-Ok.ensures.declared) in
     came_stopped s stop.cause stop.line c.end_stopped.result _ _ _ _ _ _ stops (subst (λ n. Stopped stop.cause stop.line n c.end_stopped.result ended) names c.end_stopped.ensures)
 
 pub returns-in-Ok-run-clause-came : goal.returns-in-Ok-run-clause-came
 returns-in-Ok-run-clause-came g c =
     let s = plain_script c.args.script in
     let w : Written = record { before = g.K.Sink.taken c.args.sink.now; after = g.K.Sink.taken c.run.new.sink; faults = g.K.Sink.faults c.args.sink.now; new_faults = g.K.Sink.faults c.run.new.sink } in
-    came_done_from s _ _ w c.in-Ok-new.ensures.mesh c.deref.ensures.value c.in-Ok-run.ensures.whole c.in-Ok-run.ensures.text
+    came_done_from s _ _ w c.in-Ok.ensures.mesh c.deref.ensures.value c.in-Ok-run.ensures.whole c.in-Ok-run.ensures.text

@@ -1,8 +1,8 @@
-use Rattle.std.proofs.Common.{◌≡◌, ◌∷◌, ◌++◌, length, map, take, get_or, pos, w64, ap, sym, ◌∙◌, arith, rules, append_assoc}
+use Rattle.std.proofs.Common.{◌≡◌, ◌∷◌, ◌++◌, map, take, get_or, pos, w64, ap, sym, ◌∙◌, arith, rules, append_assoc}
 use Rattle.std.proofs.lemmas.Int.{to_z-of_z}
 use mir.Val.{SFits}
 use Rattle.std.specs.Fmt.{signed_decimal}
-use Rattle.amr_engine.specs.LineWords.{more_words}
+use Rattle.amr_program.specs.Lines.{more_words}
 use Rattle.amr_program.proofs.StopLine.{one_more_number}
 use Rattle.amr_program.proofs.stop_line.push_numbers.Goals as goal
 

@@ -1,6 +1,6 @@
 use Rattle.std.proofs.Common.{◌≡◌, ◌+◌, ◌*◌, ◌≤◌, ◌++◌, length, map, take}
 use Rattle.std.specs.Fmt.{signed_decimal}
-use Rattle.amr_engine.specs.LineWords.{more_words}
+use Rattle.amr_program.specs.Lines.{more_words}
 use Rattle.amr_program.proofs.stop_line.push_numbers.Given as goal
 
 abbrev pub invariant-loop-number : goal.invariant-loop-number

@@ -8,10 +8,10 @@ use Rattle.mesh_model.specs.Stops.{refusal}
 use Rattle.amr_engine.specs.Built.{is_built_command}
 use Rattle.amr_engine.specs.EngineMesh.{engine_mesh}
 use Rattle.amr_engine.specs.Plain.{declared_of, plain, values_of}
-use Rattle.amr_engine.specs.Printing.{Prints}
+use Rattle.amr_report.specs.Printing.{Prints}
 use Rattle.amr_engine.specs.Stopping.{Written}
 use Rattle.amr_engine.proofs.Acted.{acts_changing, acts_printing, acts_regrowing}
-use Rattle.amr_engine.proofs.Lifted.{lifted, reported, some_of_group, stays_lifted, text_lifted, total_lifted}
+use Rattle.amr_engine.proofs.Lifted.{lifted, some_of_group, stays_lifted, text_lifted, total_lifted}
 use Rattle.amr_engine.proofs.engine.Engine.act.Goals as goal
 
 pub regrid-requires : goal.regrid-requires
@@ -91,7 +91,7 @@ returns-in-PrintSize-clause-acts g c =
     let self = c.args.self.now in
     let new = c.print_size.new in
     let w : Written = record { before = g.K.Sink.taken c.args.sink.now; after = g.K.Sink.taken new.sink; faults = g.K.Sink.faults c.args.sink.now; new_faults = g.K.Sink.faults new.sink } in
-    let printed = reported c.print_size.result w.before w.after _ w.faults w.new_faults (c.print_size.ensures (plain self) (sym c.tree.ensures)) in
+    let printed = c.print_size.ensures (plain self) refl in
     acts_printing c.print_size.result c.written.result (plain self) (plain self) c.args.command PrintSize w c.in-PrintSize.is refl refl printed c.written.ensures refl
 
 pub returns-in-PrintMesh-clause-acts : goal.returns-in-PrintMesh-clause-acts
@@ -100,7 +100,7 @@ returns-in-PrintMesh-clause-acts g c =
     let self = c.args.self.now in
     let new = c.print_mesh.new in
     let w : Written = record { before = g.K.Sink.taken c.args.sink.now; after = g.K.Sink.taken new.sink; faults = g.K.Sink.faults c.args.sink.now; new_faults = g.K.Sink.faults new.sink } in
-    let printed = reported c.print_mesh.result w.before w.after _ w.faults w.new_faults (c.print_mesh.ensures (plain self) (sym c.tree-in-PrintMesh.ensures)) in
+    let printed = c.print_mesh.ensures (plain self) refl in
     acts_printing c.print_mesh.result c.written-in-PrintMesh.result (plain self) (plain self) c.args.command PrintMesh w c.in-PrintMesh.is refl refl printed c.written-in-PrintMesh.ensures refl
 
 pub returns-in-PrintTree-clause-acts : goal.returns-in-PrintTree-clause-acts
@@ -109,5 +109,5 @@ returns-in-PrintTree-clause-acts g c =
     let self = c.args.self.now in
     let new = c.print_tree.new in
     let w : Written = record { before = g.K.Sink.taken c.args.sink.now; after = g.K.Sink.taken new.sink; faults = g.K.Sink.faults c.args.sink.now; new_faults = g.K.Sink.faults new.sink } in
-    let printed = reported c.print_tree.result w.before w.after _ w.faults w.new_faults (c.print_tree.ensures (plain self) (sym c.tree-in-PrintTree.ensures)) in
+    let printed = c.print_tree.ensures (plain self) refl in
     acts_printing c.print_tree.result c.written-in-PrintTree.result (plain self) (plain self) c.args.command PrintTree w c.in-PrintTree.is refl refl printed c.written-in-PrintTree.ensures refl

@@ -1,4 +1,4 @@
-use Rattle.std.proofs.Common.{◌≡◌, length, sym, ap, subst, ◌∙◌, refl}
+use Rattle.std.proofs.Common.{length, sym, ap, subst, ◌∙◌, refl}
 use Rattle.mesh_model.specs.declared.script.Command.TheVariants.{Advect}
 use Rattle.amr_engine.specs.Plain.{values_of}
 use Rattle.amr_engine.specs.Stopping.{Refuses}
@@ -41,8 +41,7 @@ pub returns-in-Ok-clause-changes : goal.returns-in-Ok-clause-changes
 returns-in-Ok-clause-changes c =
     let self = c.args.self.now in
     let next = c.try_step.new.next in
-    let made = c.copy_from_slice.ensures.items ∙ c.deref-in-Ok.ensures.value ∙ taken_over self.next c.deref_mut.result.now next c.deref_mut.ensures.value c.in-Ok.ensures.size in
-    (
+    let made = c.copy_from_slice.ensures.items ∙ c.deref-in-Ok.ensures.value ∙ taken_over self.next c.deref_mut.result.now next c.deref_mut.ensures.value c.in-Ok.ensures.size in (
       allowed self.declared self.contents.items self.outs.items c.args.var c.args.speeds c.index-contents.result.now c.deref.result.now c.index-out.result.now self.uniform self.limits self.range c.requires.variable c.index-contents.ensures c.deref.ensures.value c.index-out.ensures c.requires.speeds c.deref_mut.result.now next c.in-Ok.out c.in-Ok.ensures.tries c.copy_from_slice.new.self made,
       mesh_after_step self.declared self.contents.items self.outs.items c.args.var c.args.speeds c.index-contents.result.now c.deref.result.now c.index-out.result.now self.uniform self.limits self.range c.requires.variable c.index-contents.ensures c.deref.ensures.value c.index-out.ensures c.requires.speeds c.deref_mut.result.now next c.in-Ok.out c.in-Ok.ensures.tries c.copy_from_slice.new.self made,
     )

@@ -1,4 +1,4 @@
-use Rattle.std.proofs.Common.{◌≡◌, length, replicate, pos, sym, ap, ap₂, subst, ◌∙◌}
+use Rattle.std.proofs.Common.{length, replicate, pos, sym, ap, ap₂, subst, ◌∙◌}
 use Rattle.std.proofs.lemmas.List.{length-replicate}
 use Rattle.mesh_model.specs.Valid.{InRange}
 use Rattle.amr_engine.specs.Contents.{IsUniform, cell_count}
@@ -25,7 +25,7 @@ invariant_of-result c =
     let d = c.args.declared in
     let zeros = replicate c.cells-variables.result (replicate (cell_count d.shape) (pos 0)) in
     let no_outs = replicate c.cells-variables.result (pos 0) in
-    let uniform = zero_uniform d c.cells-variables.result c.requires.row c.requires.groups.0 c.requires.groups.1 c.cells-variables.ensures.count in
+    let uniform = zero_uniform d c.cells-variables.result c.requires.roots c.requires.groups.0 c.requires.groups.1 c.cells-variables.ensures.count in
     let range = zero_range d c.cells-variables.result c.requires.shape c.requires.few in
     record {
       uniform = subst (λ lists. IsUniform d lists c.in_ok-outs.outs.items) (sym c.in_ok-contents.ensures) (subst (IsUniform d zeros) (sym c.in_ok-outs.ensures) uniform);

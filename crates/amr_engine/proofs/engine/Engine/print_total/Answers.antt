@@ -10,7 +10,7 @@ use Rattle.mesh_model.specs.Totals as totals
 use Rattle.mesh_model.specs.Totals.{block_sum, sum_over}
 use Rattle.amr_engine.specs.Contents.{content_in}
 use Rattle.amr_engine.specs.UniformMesh.{uniform_mesh}
-use Rattle.amr_engine.specs.Printing.{Prints}
+use Rattle.amr_report.specs.Printing.{Prints}
 use Rattle.amr_engine.proofs.Shown.{total_shown}
 use Rattle.amr_engine.proofs.Vectors.{contents_are, contents_in, name_at, whole_list}
 use Rattle.amr_engine.proofs.engine.Engine.print_total.Goals as goal
@@ -25,7 +25,7 @@ returns-clause-printed g c =
     let text : List ℕ → ℤ → ℤ → List ℕ = λ name total out. text_line (codes "total" ∷ name ∷ signed_decimal total ∷ codes "out" ∷ signed_decimal out ∷ []) in
     let told : List ℕ → ℤ → ℤ → Type 0 = λ name total out. Prints c.print_total.result (g.K.Sink.taken c.args.sink.now) (text name total out) (g.K.Sink.taken c.print_total.new.sink) (g.K.Sink.faults c.args.sink.now) (g.K.Sink.faults c.print_total.new.sink) in
     let list = contents_are self.declared self.contents.items self.outs.items c.args.var c.index.result.now c.deref.result.now self.uniform c.requires c.index.ensures c.deref.ensures.value in
-    let total = wide c.total-total.result (2 ^ 75) c.total-total.ensures.small (omega arith) ∙ c.total-total.ensures.value ∙ ap (λ xs. sum_over (block_sum self.declared.shape.n (content_in self.declared.shape xs)) (start_leaves self.declared.shape)) (sym list) ∙ sym (total_shown self.declared (contents_in self.contents.items) self.outs.items c.args.var self.uniform.shape) in
+    let total = wide c.total-total.result (2 ^ 85) c.total-total.ensures.small (omega arith) ∙ c.total-total.ensures.value ∙ ap (λ xs. sum_over (block_sum self.declared.shape.n (content_in self.declared.shape xs)) (start_leaves self.declared.shape)) (sym list) ∙ sym (total_shown self.declared (contents_in self.contents.items) self.outs.items c.args.var self.uniform.shape) in
     let out_is : get_or self.outs.items c.args.var (pos 0) ≡ c.index-2.result.now = get_or_default self.outs.items c.args.var (pos 0) c.index-2.result.now (let e = self.uniform.flowed in omega (arith, e, c.requires)) ∙ sym c.index-2.ensures in
     let out = wide c.index-2.result.now (2 ^ 100) (subst (λ z. Within (2 ^ 100) z) out_is (self.range.outs c.args.var)) (omega arith) ∙ sym out_is in
     let name = name_at self.declared.names.cells c.args.var c.cell.result.now c.cell.ensures.name in
