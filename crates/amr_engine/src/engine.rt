@@ -226,9 +226,9 @@ impl Engine {
             Command::MarkDerefine { at } => self.mark_derefine(at),
             Command::Regrid => self.regrid(),
             Command::Advect { var, speeds } => self.advect(var, speeds),
-            Command::PrintSize => written(print_size(sink, &self.hierarchy.tree)),
-            Command::PrintMesh => written(print_mesh(sink, &self.hierarchy.tree)),
-            Command::PrintTree => written(print_tree(sink, &self.hierarchy.tree)),
+            Command::PrintSize => written(print_size(sink, self.hierarchy.tree())),
+            Command::PrintMesh => written(print_mesh(sink, self.hierarchy.tree())),
+            Command::PrintTree => written(print_tree(sink, self.hierarchy.tree())),
             Command::PrintVar { group } => written(self.print_variable(group, sink)),
             Command::Total { var } => written(self.print_total(var, sink)),
             _ => unreachable!(),
@@ -271,7 +271,7 @@ impl Engine {
         let shape = &self.declared.shape;
         let contents = &self.contents[var as usize];
         let out = self.outs[var as usize];
-        match try_step(shape, &self.hierarchy.tree, contents, out, speeds, &mut self.next) {
+        match try_step(shape, self.hierarchy.tree(), contents, out, speeds, &mut self.next) {
             Ok(out) => {
                 self.contents[var as usize].copy_from_slice(&self.next);
                 self.outs[var as usize] = out;
@@ -316,18 +316,13 @@ impl Engine {
     {
         match group {
             Group::Cell(var) => {
+                let tree = self.hierarchy.tree();
                 let values = CellValues {
                     shape: &self.declared.shape,
-                    tree: &self.hierarchy.tree,
+                    tree,
                     contents: &self.contents[var as usize],
                 };
-                print_var(
-                    sink,
-                    &self.hierarchy.tree,
-                    self.declared.names.cell(var),
-                    group,
-                    &values,
-                )
+                print_var(sink, tree, self.declared.names.cell(var), group, &values)
             }
             Group::Face | Group::Edge => unreachable!(),
         }
@@ -343,7 +338,7 @@ impl Engine {
     {
         let total = total(
             &self.declared.shape,
-            &self.hierarchy.tree,
+            self.hierarchy.tree(),
             &self.contents[var as usize],
         );
         print_total(

@@ -14,7 +14,7 @@ ghost use Rattle.std.specs.Prelude.{◌≡◌};
 /// The tree of a mesh, and the marks on its leaves.
 #[derive(Drop)]
 pub struct Hierarchy {
-    pub(crate) tree: Tree,
+    tree: Tree,
     marks: Marks,
     pub ghost marked: { AreMarks (grid_of tree) marks },
     pub ghost room: { room_of marks ≡ most_nodes (grid_of tree).shape },
@@ -38,6 +38,13 @@ impl Hierarchy {
         let tree = Tree::roots(alloc, shape)?;
         let marks = Marks::empty(alloc, &tree)?;
         Ok(Hierarchy { tree, marks })
+    }
+
+    /// The tree.
+    pub fn tree(&self) -> &Tree
+        ensures { grid_of result.now ≡ grid_in self.now }
+    {
+        &self.tree
     }
 
     /// Marks a leaf to be refined.

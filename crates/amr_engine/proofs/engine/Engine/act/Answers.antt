@@ -91,7 +91,7 @@ returns-in-PrintSize-clause-acts g c =
     let self = c.args.self.now in
     let new = c.print_size.new in
     let w : Written = record { before = g.K.Sink.taken c.args.sink.now; after = g.K.Sink.taken new.sink; faults = g.K.Sink.faults c.args.sink.now; new_faults = g.K.Sink.faults new.sink } in
-    let printed = c.print_size.ensures (plain self) refl in
+    let printed = c.print_size.ensures (plain self) (sym c.tree.ensures) in
     acts_printing c.print_size.result c.written.result (plain self) (plain self) c.args.command PrintSize w c.in-PrintSize.is refl refl printed c.written.ensures refl
 
 pub returns-in-PrintMesh-clause-acts : goal.returns-in-PrintMesh-clause-acts
@@ -100,7 +100,7 @@ returns-in-PrintMesh-clause-acts g c =
     let self = c.args.self.now in
     let new = c.print_mesh.new in
     let w : Written = record { before = g.K.Sink.taken c.args.sink.now; after = g.K.Sink.taken new.sink; faults = g.K.Sink.faults c.args.sink.now; new_faults = g.K.Sink.faults new.sink } in
-    let printed = c.print_mesh.ensures (plain self) refl in
+    let printed = c.print_mesh.ensures (plain self) (sym c.tree-in-PrintMesh.ensures) in
     acts_printing c.print_mesh.result c.written-in-PrintMesh.result (plain self) (plain self) c.args.command PrintMesh w c.in-PrintMesh.is refl refl printed c.written-in-PrintMesh.ensures refl
 
 pub returns-in-PrintTree-clause-acts : goal.returns-in-PrintTree-clause-acts
@@ -109,5 +109,5 @@ returns-in-PrintTree-clause-acts g c =
     let self = c.args.self.now in
     let new = c.print_tree.new in
     let w : Written = record { before = g.K.Sink.taken c.args.sink.now; after = g.K.Sink.taken new.sink; faults = g.K.Sink.faults c.args.sink.now; new_faults = g.K.Sink.faults new.sink } in
-    let printed = c.print_tree.ensures (plain self) refl in
+    let printed = c.print_tree.ensures (plain self) (sym c.tree-in-PrintTree.ensures) in
     acts_printing c.print_tree.result c.written-in-PrintTree.result (plain self) (plain self) c.args.command PrintTree w c.in-PrintTree.is refl refl printed c.written-in-PrintTree.ensures refl
