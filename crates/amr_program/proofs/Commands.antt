@@ -63,14 +63,14 @@ begun m lines = record { mesh = refl; done_so_far = refl; stops_later = refl }
 -- what a refusal, or none, makes of the commands that are left
 done_by : (now : Mesh) (line : Line) (rest : List Line) → refusal now line.command ≡ None → (done now (line ∷ rest) ≡ line ∷ done (mesh_after now line.command) rest) × (stop now (line ∷ rest) ≡ stop (mesh_after now line.command) rest)
 done_by now line rest none = (
-  ap (λ o. elim o [ | None ↦ line ∷ done (mesh_after now line.command) rest | Some w ↦ [] ]) none,
-  ap (λ o. elim o [ | None ↦ stop (mesh_after now line.command) rest | Some w ↦ Some (record { line = line.number; why = w }) ]) none,
+  ap (λ o. elim o [ None ↦ line ∷ done (mesh_after now line.command) rest | Some w ↦ [] ]) none,
+  ap (λ o. elim o [ None ↦ stop (mesh_after now line.command) rest | Some w ↦ Some (record { line = line.number; why = w }) ]) none,
 )
 
 stopped_by : (now : Mesh) (line : Line) (rest : List Line) (reason : stops.Refusal) → refusal now line.command ≡ Some reason → (done now (line ∷ rest) ≡ []) × (stop now (line ∷ rest) ≡ Some (record { line = line.number; why = reason }))
 stopped_by now line rest reason some = (
-  ap (λ o. elim o [ | None ↦ line ∷ done (mesh_after now line.command) rest | Some w ↦ [] ]) some,
-  ap (λ o. elim o [ | None ↦ stop (mesh_after now line.command) rest | Some w ↦ Some (record { line = line.number; why = w }) ]) some,
+  ap (λ o. elim o [ None ↦ line ∷ done (mesh_after now line.command) rest | Some w ↦ [] ]) some,
+  ap (λ o. elim o [ None ↦ stop (mesh_after now line.command) rest | Some w ↦ Some (record { line = line.number; why = w }) ]) some,
 )
 
 left_from : (lines : List Line) (i : ℕ) (d : Line) → i < length lines → drop i lines ≡ get_or lines i d ∷ drop (i + 1) lines
@@ -112,10 +112,10 @@ more_taken m now lines i d a b c h so_far before here =
     let line = get_or lines i d in
     let next : i + 1 ≡ suc i = omega arith in
     let texts_next : texts m (take i lines) ++ text_of now line.command ≡ texts m (take (i + 1) lines) =
-        ap (λ x. texts m (take i lines) ++ text_of x line.command) so_far.mesh
-        ∙ ap (λ t. texts m (take i lines) ++ t) (sym (append-nil (text_of (mesh_of m (take i lines)) line.command)))
-        ∙ sym (texts_append m (take i lines) (line ∷ []))
-        ∙ ap (texts m) (sym (ap (λ k. take k lines) next ∙ take-suc lines i d h)) in
+    ap (λ x. texts m (take i lines) ++ text_of x line.command) so_far.mesh
+    ∙ ap (λ t. texts m (take i lines) ++ t) (sym (append-nil (text_of (mesh_of m (take i lines)) line.command)))
+    ∙ sym (texts_append m (take i lines) (line ∷ []))
+    ∙ ap (texts m) (sym (ap (λ k. take k lines) next ∙ take-suc lines i d h)) in
     subst (λ t. Takes a t c) texts_next (takes_more a b c (texts m (take i lines)) (text_of now line.command) before here)
 
 -- the command at which a run stands is refused
@@ -125,8 +125,7 @@ stopped_here : (m now : Mesh) (lines : List Line) (i number : ℕ) (d : Line) (a
 stopped_here m now lines i number d a b c f g h l number_is so_far before calm reason some same quiet =
     let line = get_or lines i d in
     let here = stopped_by now line (drop (i + 1) lines) reason some in
-    let all : done m lines ≡ take i lines = so_far.done_so_far ∙ ap (λ ls. take i lines ++ done now ls) (left_from lines i d l) ∙ ap (λ ls. take i lines ++ ls) here.0 ∙ append-nil (take i lines) in
-    (
+    let all : done m lines ≡ take i lines = so_far.done_so_far ∙ ap (λ ls. take i lines ++ done now ls) (left_from lines i d l) ∙ ap (λ ls. take i lines ++ ls) here.0 ∙ append-nil (take i lines) in (
       so_far.stops_later ∙ ap (stop now) (left_from lines i d l) ∙ here.1 ∙ ap (λ n. Some (record { line = n; why = reason })) (sym number_is),
       record { takes = subst (λ x. Takes a (texts m (done m lines)) x) (sym same) (subst (λ t. Takes a t b) (ap (texts m) (sym all)) before); calm = quiet ∙ calm },
     )
@@ -143,7 +142,7 @@ run_stops causes.WriteFault m now lines i number d a b c f g h l number_is so_fa
     let after = mesh_after now line.command in
     let all : done m lines ≡ take i lines ++ line ∷ done after rest = so_far.done_so_far ∙ ap (λ ls. take i lines ++ done now ls) (left_from lines i d l) ∙ ap (λ ls. take i lines ++ ls) (done_by now line rest told.0).0 in
     let whole : texts m (done m lines) ≡ (texts m (take i lines) ++ text_of now line.command) ++ texts after (done after rest) =
-        ap (texts m) all ∙ texts_append m (take i lines) (line ∷ done after rest) ∙ ap (λ x. texts m (take i lines) ++ texts x (line ∷ done after rest)) (sym so_far.mesh) ∙ sym (append_assoc (texts m (take i lines)) (text_of now line.command) (texts after (done after rest))) in
+    ap (texts m) all ∙ texts_append m (take i lines) (line ∷ done after rest) ∙ ap (λ x. texts m (take i lines) ++ texts x (line ∷ done after rest)) (sym so_far.mesh) ∙ sym (append_assoc (texts m (take i lines)) (text_of now line.command) (texts after (done after rest))) in
     record {
       takes = part_within a b c (texts m (take i lines)) (text_of now line.command) (texts after (done after rest)) (texts m (done m lines)) before told.1 whole;
       rose = subst (λ x. Rose x h) calm told.2;
@@ -156,6 +155,7 @@ run_stops causes.OutOfMemory m now lines i number d a b c f g h l number_is so_f
     taken_length lines zero k = refl
     taken_length [] (suc i) k = absurd (omega arith)
     taken_length (line ∷ lines) (suc i) k = ap suc (taken_length lines i (omega arith))
+
     take_first : (xs ys : List Line) (n : ℕ) → length xs ≡ n → take n (xs ++ ys) ≡ xs
     take_first [] ys n e = subst (λ k. take k ys ≡ []) e refl
     take_first (x ∷ xs) ys zero e = absurd (omega (arith, e))
@@ -313,6 +313,7 @@ shape_of d limits = record {
   where
     same : (a b : ℕ) → is_periodic_kind (get_or d.shape.sides a Periodic) ≡ is_periodic_kind (get_or d.shape.sides b Periodic) → is_periodic_kind (side_kind d.shape.sides a) ≡ is_periodic_kind (side_kind d.shape.sides b)
     same a b e = ap is_periodic_kind (side_kind_is d.shape.sides a) ∙ e ∙ ap is_periodic_kind (sym (side_kind_is d.shape.sides b))
+
     paired : (a : Axis) → is_periodic_kind (side_kind d.shape.sides (side_index a)) ≡ is_periodic_kind (side_kind d.shape.sides (suc (side_index a)))
     paired X = same 0 1 limits.shape.sides.x
     paired Y = same 2 3 limits.shape.sides.y
