@@ -30,7 +30,7 @@ use Rattle.amr_engine.specs.Built.{IsBuiltLine, is_built, is_built_mesh, is_buil
 use Rattle.mesh_model.specs.Commands.{InLimits, IsLineOf, PlainScript}
 use Rattle.mesh_model.specs.Grammar.{Fault}
 use Rattle.mesh_model.specs.Plain.{Mesh}
-use Rattle.outside_io.specs.Moved.{Takes}
+use Rattle.outside_io.specs.Moved.{Rose, Takes, TakesPrefix}
 use Rattle.outside_io.proofs.Moving.{takes_more}
 use Rattle.amr_program.specs.declared.status.Status.{Status}
 use Rattle.amr_program.specs.declared.status.Status.TheVariants as status

@@ -174,3 +174,77 @@ fn blocks_go_in_morton_order(rt: HostRuntime) -> Result<(), Fail> {
     }
     Ok(())
 }
+
+/// Scripts that move a variable, each with how it ends and what it prints.
+const MOVED: [(&[u8], Status, &[u8]); 4] = [
+    // Half of each cell goes on to the next, rounded down, and round the periodic row.
+    (
+        b"domain 1 1 1\ncells 4 1\nlevels 0 0\ncellvar u\nfill u box 0 3 0 0 4 1 1 5\nfill u box 0 0 0 0 1 1 1 1\nadvect u 524288 0 0\nprint u\ntotal u\nend\n",
+        Status::Done,
+        b"cell u block 0 0 0 0\n3 0 0 3\n0 0 0 0\n0 0 0 0\n0 0 0 0\n0 0 0 0\n0 0 0 0\n0 0 0 0\n0 0 0 0\n0 0 0 0\n0 0 0 0\n0 0 0 0\n0 0 0 0\n0 0 0 0\n0 0 0 0\n0 0 0 0\n0 0 0 0\ntotal u 6 out 0\n",
+    ),
+    // A whole cell a step may go; more ends the run, after what was printed.
+    (
+        b"domain 1 1 1\ncells 4 1\nlevels 0 0\ncellvar u\nfill u box 0 3 0 0 4 1 1 5\nadvect u 1048576 0 0\nprint u\nadvect u 1048576 1 0\nend\n",
+        Status::Stopped,
+        b"cell u block 0 0 0 0\n5 0 0 0\n0 0 0 0\n0 0 0 0\n0 0 0 0\n0 0 0 0\n0 0 0 0\n0 0 0 0\n0 0 0 0\n0 0 0 0\n0 0 0 0\n0 0 0 0\n0 0 0 0\n0 0 0 0\n0 0 0 0\n0 0 0 0\n0 0 0 0\nerror: line 8: courant 1048576 1 0\n",
+    ),
+    (THROUGH_A_SIDE, Status::Done, OUT_AND_IN),
+    // What comes to a closed side stays there, up to the greatest number of a cell.
+    (
+        b"domain 1 1 1\ncells 4 1\nbounds closed closed periodic periodic periodic periodic\nlevels 0 0\ncellvar u\nfill u box 0 3 0 0 4 1 1 1099511627776\nfill u box 0 2 0 0 3 1 1 1\nadvect u 1048576 0 0\nend\n",
+        Status::Stopped,
+        b"error: line 8: range u cell 0 3 0 0 1099511627777\n",
+    ),
+];
+
+/// A variable goes out through an outflow side, and comes in there.
+const THROUGH_A_SIDE: &[u8] =
+    b"domain 1 1 1\ncells 4 1\nbounds closed outflow periodic periodic periodic periodic\nlevels 0 0\ncellvar u\nfill u box 0 2 0 0 3 1 1 7\nadvect u 1048576 0 0\ntotal u\nadvect u 1048576 0 0\ntotal u\nfill u box 0 0 0 0 1 1 1 4\nadvect u -1048576 0 0\ntotal u\nfill u box 0 3 0 0 4 1 1 2\nadvect u -1048576 0 0\ntotal u\nend\n";
+
+/// What that script prints.
+const OUT_AND_IN: &[u8] = b"total u 7 out 0\ntotal u 0 out 7\ntotal u 4 out 7\ntotal u 8 out 5\n";
+
+#[test]
+fn moves_variables(rt: HostRuntime) -> Result<(), Fail> {
+    for (script, answer, printed) in MOVED {
+        let (status, sink) = run(rt.alloc(), &[], script, QUIET)?;
+        assert_eq!(rt; status, answer);
+        assert_eq!(rt; sink.taken(), printed);
+    }
+    Ok(())
+}
+
+#[test]
+fn a_fault_ends_a_run_that_moves(rt: HostRuntime) -> Result<(), Fail> {
+    let second_read = Outside {
+        read_step: 8,
+        failing_read: 2,
+        write_step: 4096,
+        failing_write: 0,
+    };
+    let third_write = Outside {
+        read_step: 4096,
+        failing_read: 0,
+        write_step: 4096,
+        failing_write: 3,
+    };
+    let table = [
+        (
+            second_read,
+            Status::ReadFault,
+            b"error: read failed\n".as_slice(),
+        ),
+        (
+            third_write,
+            Status::WriteFault,
+            b"total u 7 out 0\ntotal u 0 out 7\n",
+        ),
+    ];
+    for (outside, answer, printed) in table {
+        let (status, sink) = run(rt.alloc(), &[], THROUGH_A_SIDE, outside)?;
+        assert_eq!(rt; status, answer);
+        assert_eq!(rt; sink.taken(), printed);
+    }
+    Ok(())
+}
