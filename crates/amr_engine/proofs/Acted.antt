@@ -213,6 +213,7 @@ acts_regrowing (Err cause) m after command taken faults e told =
   where
     same_reason : (a b : Refusal) (o : Option Refusal) → o ≡ Some b → Some a ≡ Some b → o ≡ Some a
     same_reason a b o h k = h ∙ sym k
+
     by : (cause : Cause) → (cause ≢ causes.OutOfMemory → Refuses cause m Regrid) → IsCause cause m Regrid (record { before = taken; after = taken; faults = faults; new_faults = faults })
     by (causes.Range stop) refuses = let r = refuses (λ h. cc) in (same_reason _ _ _ r.1 r.2, record { taken = refl; calm = refl })
     by (causes.Courant speeds) refuses = let r = refuses (λ h. cc) in (same_reason _ _ _ r.1 r.2, record { taken = refl; calm = refl })

@@ -80,24 +80,28 @@ module _ (m : Mesh) (tree : Tree) (old : Marks) (at : BlockAt) (fits : HasMarks 
       unfolding refusal mark_refine
       refine_set adds same =
           let set : refine_of (grid_of tree) new at ≡ true = adds at ∙ or_left (is_same_block at at) (refine_of (grid_of tree) old at) (same_shows at at refl) in
-          let below : nat_lt at.level m.grid.shape.max ≡ true = lt-ltb at.level m.grid.shape.max (let most = ap (λ g. g.shape.max) fits.grid in let low = (marks.refine at set).1 in omega (arith, most, low)) in
-          (rw (leaf_in true leaf, below) refl, record {
-            grid = fits.grid;
-            refine = λ b. ap (λ t. is_same_block b at || t) (fits.refine b) ∙ sym (adds b);
-            derefine = λ b. fits.derefine b ∙ sym (same b);
-          })
+          let below : nat_lt at.level m.grid.shape.max ≡ true = lt-ltb at.level m.grid.shape.max (let most = ap (λ g. g.shape.max) fits.grid in let low = (marks.refine at set).1 in omega (arith, most, low)) in (
+            rw (leaf_in true leaf, below) refl,
+            record {
+              grid = fits.grid;
+              refine = λ b. ap (λ t. is_same_block b at || t) (fits.refine b) ∙ sym (adds b);
+              derefine = λ b. fits.derefine b ∙ sym (same b);
+            },
+          )
 
       pub derefine_set : AddsBlock at (derefine_of (grid_of tree) old) (derefine_of (grid_of tree) new) → IsSameSet (refine_of (grid_of tree) old) (refine_of (grid_of tree) new) →
           (refusal m (MarkDerefine at) ≡ None) × HasMarks (mesh_after m (MarkDerefine at)) tree new
       unfolding refusal mark_derefine
       derefine_set adds same =
           let set : derefine_of (grid_of tree) new at ≡ true = adds at ∙ or_left (is_same_block at at) (derefine_of (grid_of tree) old at) (same_shows at at refl) in
-          let above : nat_lt m.grid.shape.min at.level ≡ true = lt-ltb m.grid.shape.min at.level (let least = ap (λ g. g.shape.min) fits.grid in let high = (marks.derefine at set).1 in omega (arith, least, high)) in
-          (rw (leaf_in true leaf, above) refl, record {
-            grid = fits.grid;
-            refine = λ b. fits.refine b ∙ sym (same b);
-            derefine = λ b. ap (λ t. is_same_block b at || t) (fits.derefine b) ∙ sym (adds b);
-          })
+          let above : nat_lt m.grid.shape.min at.level ≡ true = lt-ltb m.grid.shape.min at.level (let least = ap (λ g. g.shape.min) fits.grid in let high = (marks.derefine at set).1 in omega (arith, least, high)) in (
+            rw (leaf_in true leaf, above) refl,
+            record {
+              grid = fits.grid;
+              refine = λ b. fits.refine b ∙ sym (same b);
+              derefine = λ b. ap (λ t. is_same_block b at || t) (fits.derefine b) ∙ sym (adds b);
+            },
+          )
 
 -- ---- regrid
 

@@ -271,7 +271,14 @@ impl Engine {
         let shape = &self.declared.shape;
         let contents = &self.contents[var as usize];
         let out = self.outs[var as usize];
-        match try_step(shape, self.hierarchy.tree(), contents, out, speeds, &mut self.next) {
+        match try_step(
+            shape,
+            self.hierarchy.tree(),
+            contents,
+            out,
+            speeds,
+            &mut self.next,
+        ) {
             Ok(out) => {
                 self.contents[var as usize].copy_from_slice(&self.next);
                 self.outs[var as usize] = out;

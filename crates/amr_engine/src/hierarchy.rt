@@ -1,15 +1,15 @@
+ghost use Rattle.amr_engine.specs.Marking.{AreMarks};
+ghost use Rattle.block_tree.specs.GridOf.{grid_of};
+ghost use Rattle.block_tree.specs.Marked.{room as room_of};
+ghost use Rattle.mesh_model.specs.Limits.{most_nodes};
+ghost use Rattle.std.specs.Prelude.{◌≡◌};
+
 use crate::engine::Cause;
 use amr_num::{BlockAt, OutOfMemory};
 use block_tree::{GrowStop, Marks, Tree};
 use mesh_model::Shape;
 use refine_marks::{SetMarks, close};
 use std::alloc::Global;
-
-ghost use Rattle.amr_engine.specs.Marking.{AreMarks};
-ghost use Rattle.block_tree.specs.GridOf.{grid_of};
-ghost use Rattle.block_tree.specs.Marked.{room as room_of};
-ghost use Rattle.mesh_model.specs.Limits.{most_nodes};
-ghost use Rattle.std.specs.Prelude.{◌≡◌};
 
 /// The tree of a mesh, and the marks on its leaves.
 #[derive(Drop)]

@@ -139,7 +139,10 @@ const REFUSED: [(&[u8], &[u8]); 4] = [
         b"error: script line 2: wrong number of words\n",
     ),
     (b"domain 1 2 1\nfacevar f\nend\n", b"error: not built\n"),
-    (b"domain 1 1 1\nregrid\nend\n", b"error: not built\n"),
+    (
+        b"domain 1 1 1\ncellvar u\nregrid\nend\n",
+        b"error: not built\n",
+    ),
 ];
 
 #[test]
@@ -243,6 +246,55 @@ fn a_fault_ends_a_run_that_moves(rt: HostRuntime) -> Result<(), Fail> {
     ];
     for (outside, answer, printed) in table {
         let (status, sink) = run(rt.alloc(), &[], THROUGH_A_SIDE, outside)?;
+        assert_eq!(rt; status, answer);
+        assert_eq!(rt; sink.taken(), printed);
+    }
+    Ok(())
+}
+
+/// Scripts that refine and merge, each with how it ends and what it prints.
+const GROWN: [(&[u8], Status, &[u8]); 4] = [
+    // Roots across a corner of the domain, through periodic sides, are refined besides.
+    (
+        b"domain 4 4 4\ncells 4 1\nlevels 0 2\nmark refine 0 0 0 0\nregrid\nprint size\nmark refine 1 0 0 0\nregrid\nprint size\nend\n",
+        Status::Done,
+        b"mesh nodes 72 leaves 71\nmesh nodes 136 leaves 127\n",
+    ),
+    // A mark at the limit of levels.
+    (
+        b"domain 1 1 1\ncells 4 1\nlevels 0 0\ncellvar u\nmark refine 0 0 0 0\nend\n",
+        Status::Level,
+        b"error: line 5: level 0 limit 0\n",
+    ),
+    // A mark on what is no leaf.
+    (
+        b"domain 1 1 1\ncells 4 1\nlevels 0 0\ncellvar u\nmark refine 1 0 0 0\nend\n",
+        Status::Stopped,
+        b"error: line 5: place block 1 0 0 0\n",
+    ),
+    (BESIDE_A_FINER_ROOT, Status::Done, TEN_NODES),
+];
+
+/// Two roots, of which the first is refined, between outflow sides.
+const BESIDE_A_FINER_ROOT: &[u8] =
+    b"domain 2 1 1\ncells 4 1\nbounds outflow outflow periodic periodic periodic periodic\nlevels 0 1\nmark refine 0 0 0 0\nregrid\nprint tree\nend\n";
+
+/// Its tree.
+const TEN_NODES: &[u8] = b"node 0 level 0 at 0 0 0 type 2 parent -1 faces -20 9 0 0 0 0\n\
+node 1 level 1 at 0 0 0 type 1 parent 0 faces -20 2 3 3 5 5\n\
+node 2 level 1 at 1 0 0 type 1 parent 0 faces 1 -1 4 4 6 6\n\
+node 3 level 1 at 0 1 0 type 1 parent 0 faces -20 4 1 1 7 7\n\
+node 4 level 1 at 1 1 0 type 1 parent 0 faces 3 -1 2 2 8 8\n\
+node 5 level 1 at 0 0 1 type 1 parent 0 faces -20 6 7 7 1 1\n\
+node 6 level 1 at 1 0 1 type 1 parent 0 faces 5 -1 8 8 2 2\n\
+node 7 level 1 at 0 1 1 type 1 parent 0 faces -20 8 5 5 3 3\n\
+node 8 level 1 at 1 1 1 type 1 parent 0 faces 7 -1 6 6 4 4\n\
+node 9 level 0 at 1 0 0 type 1 parent -1 faces 0 -20 9 9 9 9\n";
+
+#[test]
+fn refines_and_merges(rt: HostRuntime) -> Result<(), Fail> {
+    for (script, answer, printed) in GROWN {
+        let (status, sink) = run(rt.alloc(), &[], script, QUIET)?;
         assert_eq!(rt; status, answer);
         assert_eq!(rt; sink.taken(), printed);
     }

@@ -24,8 +24,7 @@ returns-in-Err c m fits =
     let self = c.args.self.now in
     let node = c.in-Some.ensures.1 in
     let limit = c.in-Err.ensures.refused.0 refl in
-    let stop = c.in-Err.ensures.stop in
-    (
+    let stop = c.in-Err.ensures.stop in (
       too_fine m self.tree self.marks c.args.at fits c.in-Some.ensures.0 c.in-Err.stop (sym (ap (λ b. b.level) node.block) ∙ limit) (stop ∙ ap (λ b. record { level = b.level; limit = (grid_of self.tree).shape.max }) node.block),
       subst (λ marks. HasMarks m self.tree marks) (sym c.in-Err.ensures.unchanged) fits,
     )
