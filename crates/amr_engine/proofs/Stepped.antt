@@ -9,7 +9,7 @@ use Rattle.mesh_model.specs.declared.Shape.{Shape}
 use Rattle.amr_engine.specs.declared.advection.Above.{Above}
 use Rattle.amr_engine.specs.Contents.{IsCell}
 use Rattle.amr_engine.specs.Stepping.{FindsExcess, Holds, IsAmong, Steps, is_excess}
-use Rattle.amr_engine.proofs.Ranges.{flat_after, flat_next}
+use Rattle.amr_report.proofs.Printed.{flat_after, flat_next}
 
 among_either : (c : CellAt) (xs ys : List CellAt) → IsAmong c (xs ++ ys) → IsAmong c xs ⊎ IsAmong c ys
 among_either c [] ys h = inr h

@@ -13,7 +13,8 @@ use Rattle.mesh_model.specs.Start.{start_grid, start_leaves}
 use Rattle.mesh_model.specs.Texts.{in_block}
 use Rattle.amr_engine.specs.Contents.{IsCell, IsRoots}
 use Rattle.amr_engine.specs.Stepping.{IsAmong}
-use Rattle.amr_engine.proofs.Ranges.{flat_after, map_singles}
+use Rattle.amr_engine.proofs.Ranges.{map_singles}
+use Rattle.amr_report.proofs.Printed.{flat_after}
 use Rattle.amr_engine.proofs.Uniform.{block_is_leaf, block_of_cell}
 
 among_first : (c : CellAt) (xs ys : List CellAt) → IsAmong c xs → IsAmong c (xs ++ ys)

@@ -5,23 +5,10 @@ ghost use Rattle.mesh_model.specs.Texts as texts;
 ghost use Rattle.std.specs.Fmt.{signed_decimal};
 ghost use Rattle.std.specs.Prelude.{◌≡◌, ◌+◌, ◌≤◌, [], ◌∷◌, ◌++◌, decimal, length, map};
 
-use amr_num::Axis;
-use amr_report::Line;
+use amr_report::{Line, axis_name};
 use mesh_model::names::Names;
 use mesh_model::script::Group;
 use mesh_model::stops::{Refusal, Spot};
-
-/// The name of an axis.
-fn axis_name(axis: Axis) -> &'static str
-    ensures name { result.now ≡ texts.axis_name axis }
-    ensures short { length result.now ≤ 1 }
-{
-    match axis {
-        Axis::X => "x",
-        Axis::Y => "y",
-        Axis::Z => "z",
-    }
-}
 
 /// The name of a group's variable, which is empty where there is none.
 fn group_name(names: &Names, group: Group) -> &str

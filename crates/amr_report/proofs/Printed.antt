@@ -73,11 +73,11 @@ range_apart a (suc m) k =
     ap (range_with_len a) e ∙ ap (λ r. a ∷ r) (range_apart (a + 1) m k ∙ ap (λ b. range_with_len (a + 1) m ++ range_with_len b k) h)
 
 -- one more place
-pub flat_next : (f : ℕ → List ℕ) (j : ℕ) → flat_map f (range_with_len 0 (j + 1)) ≡ flat_map f (range_with_len 0 j) ++ f j
+pub flat_next : {A : Type 0} (f : ℕ → List A) (j : ℕ) → flat_map f (range_with_len 0 (j + 1)) ≡ flat_map f (range_with_len 0 j) ++ f j
 flat_next f j = ap (flat_map f) (range_apart 0 j 1) ∙ flat_map-append f (range_with_len 0 j) (range_with_len (0 + j) 1) ∙ ap₂ (λ k t. flat_map f (range_with_len 0 j) ++ (f k ++ t)) (zero-add j) refl ∙ ap (λ t. flat_map f (range_with_len 0 j) ++ t) (append-nil (f j))
 
 -- what comes after a place
-flat_after : (f : ℕ → List ℕ) (j n : ℕ) → j < n → (rest : List ℕ) × (flat_map f (range_with_len 0 n) ≡ (flat_map f (range_with_len 0 j) ++ f j) ++ rest)
+pub flat_after : {A : Type 0} (f : ℕ → List A) (j n : ℕ) → j < n → (rest : List A) × (flat_map f (range_with_len 0 n) ≡ (flat_map f (range_with_len 0 j) ++ f j) ++ rest)
 flat_after f j n h =
     let rest = range_with_len (0 + (j + 1)) (n - (j + 1)) in
     let e : n ≡ j + 1 + (n - (j + 1)) = omega arith in

@@ -112,7 +112,8 @@ fn array_word(var: Var) -> &'static str
     }
 }
 
-fn axis_name(axis: Axis) -> &'static str
+/// The name of an axis: `x`, `y` or `z`.
+pub fn axis_name(axis: Axis) -> &'static str
     ensures name { result.now ≡ texts.axis_name axis }
     ensures short { length result.now ≤ 1 }
 {

@@ -14,6 +14,7 @@ mod tests;
 mod totals;
 mod variables;
 
+pub use arrays::axis_name;
 pub use line::{LINE_LENGTH, Line};
 pub use mesh::{print_mesh, print_size};
 pub use nodes::print_tree;

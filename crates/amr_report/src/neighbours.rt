@@ -7,36 +7,9 @@ ghost use Rattle.mesh_model.specs.Tree as model;
 ghost use Rattle.mesh_model.specs.Valid.{InDomain};
 ghost use Rattle.std.specs.Prelude.{◌≡◌, suc, ◌<◌, ◌≤◌};
 
-use amr_num::{Axis, BlockAt, SideKind};
+use amr_num::{Axis, BlockAt};
 use mesh_model::Shape;
-
-/// Whether an axis is periodic.
-fn is_periodic(shape: &Shape, axis: Axis) -> bool
-    requires { IsShape shape.now }
-    ensures { result ≡ coordinates.is_periodic shape.now axis }
-{
-    let side = match axis {
-        Axis::X => 0,
-        Axis::Y => 2,
-        Axis::Z => 4,
-    };
-    match shape.sides[side] {
-        SideKind::Periodic => true,
-        SideKind::Outflow => false,
-        SideKind::Closed => false,
-    }
-}
-
-/// How many roots stand side by side on an axis.
-fn roots(shape: &Shape, axis: Axis) -> u32
-    ensures { result ≡ coordinates.roots shape.now axis }
-{
-    match axis {
-        Axis::X => shape.rx,
-        Axis::Y => shape.ry,
-        Axis::Z => shape.rz,
-    }
-}
+use mesh_model::axes::{is_periodic, roots};
 
 /// How many blocks of a level stand side by side on an axis.
 fn blocks_along(shape: &Shape, axis: Axis, level: u32) -> u32
