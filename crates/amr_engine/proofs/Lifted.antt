@@ -38,13 +38,6 @@ lifted result e after command d h some same made changes =
     (changes_lifted result e.declared (grid_now e) (contents_of e) (contents_of after) e.outs.items after.outs.items (refine_now e) (derefine_now e) command (e.at_roots some) same made
     (subst (λ x. Changes result (values_of e) command (uniform_mesh x (contents_of after) after.outs.items)) d changes))
 
--- a call that leaves the contents leaves the mesh
-pub stays_lifted : (e after : Engine) → after.declared ≡ e.declared → after.hierarchy ≡ e.hierarchy → 0 < length e.declared.names.cells → values_of after ≡ values_of e → plain after ≡ plain e
-stays_lifted e after d h some same =
-    moved e after d h ∙ at_roots_is e.declared (grid_now e) (contents_of after) after.outs.items (refine_now e) (derefine_now e) (e.at_roots some)
-    ∙ ap (λ m. with_marks m (refine_now e) (derefine_now e)) (ap (λ x. uniform_mesh x (contents_of after) after.outs.items) (sym d) ∙ same)
-    ∙ sym (plain_is e some)
-
 -- there is a variable
 pub some_of_group : (names : VariableNames) (group : Group) → names.face ≡ None → names.edge ≡ None → IsGroup names group → 0 < length names.cells
 some_of_group names (Cell v) face edge is = omega (arith, is)

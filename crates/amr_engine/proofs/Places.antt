@@ -15,9 +15,6 @@ use Rattle.amr_num.specs.declared.CellAt.{CellAt}
 pub few_along : (s : Shape) (a : Axis) → IsRoots s → extent s a 0 ≤ 64
 few_along s a limits = let most = mul-le (roots s a) s.n 8 8 (limits.few a) limits.few_cells in omega (arith, most)
 
-pub some_along : (s : Shape) (a : Axis) → IsRoots s → 0 < extent s a 0
-some_along s a limits = let least = mul-le 1 1 (roots s a) s.n (let some = limits.some a in omega (arith, some)) (let some = limits.some_cells in omega (arith, some)) in omega (arith, least)
-
 few_on_plane : (s : Shape) → IsRoots s → extent s Y 0 * extent s Z 0 ≤ 4096
 few_on_plane s limits = mul-le (extent s Y 0) (extent s Z 0) 64 64 (few_along s Y limits) (few_along s Z limits)
 

@@ -152,10 +152,6 @@ zero_or false h = refl
 zero_small : (most : ℕ) (z : ℤ) → z ≡ pos 0 → Within most z
 zero_small most z e = subst (λ u. Within most u) (sym e) (omega arith)
 
-empty_list : {A : Type 0} (xs : List A) → length xs ≡ 0 → xs ≡ []
-empty_list [] h = refl
-empty_list (x ∷ xs) h = absurd (cc)
-
 -- a variable that there is not has the content 0
 nothing_in : (d : Declared) (g : Grid) (contents : List (List ℤ)) (v : ℕ) (c : CellAt) → length contents ≤ v → on_cells g (content_in d.shape (get_or contents v [])) c ≡ pos 0
 nothing_in d g contents v c far = zero_or (is_leaf g c) (ap (λ xs. get_or xs (place d.shape c) (pos 0)) (get_or-eq_default contents [] far))

@@ -1,11 +1,21 @@
 -- What a cell variable has at the places of the roots.
-use Rattle.std.specs.Prelude.{◌≡◌, ◌<◌, ℕ, List, ℤ, pos, unsigned_abs}
+use Rattle.std.specs.Prelude.{◌≡◌, ◌<◌, ℕ, Bool, true, false, List, ℤ, pos, unsigned_abs}
 use Rattle.block_tree.specs.Numbered.{block_at}
 use Rattle.mesh_model.specs.declared.Shape.{Shape}
 use Rattle.mesh_model.specs.declared.values.Var.{Var}
+use Rattle.mesh_model.specs.declared.values.Var.TheVariants.{Cell, Face, Edge, CellWork, FaceWork, EdgeWork}
 use Rattle.mesh_model.specs.Plain.{Grid}
 use Rattle.mesh_model.specs.Texts.{in_block}
 use Rattle.amr_engine.specs.Contents.{content_in}
+
+-- the array is that of a cell variable
+abbrev pub is_cell_array : Var → Bool
+is_cell_array (Cell v) = true
+is_cell_array (Face a) = false
+is_cell_array (Edge a) = false
+is_cell_array CellWork = false
+is_cell_array (FaceWork a) = false
+is_cell_array (EdgeWork a) = false
 
 -- i is one of the n places along an axis
 abbrev pub IsWithin : ℕ → ℤ → Type 0

@@ -1,3 +1,5 @@
+//! One step of a cell variable on the root blocks.
+
 ghost use Rattle.amr_engine.specs.Contents.{IsBlock, IsCell, IsRoots, cell_count, content_in};
 ghost use Rattle.amr_engine.specs.Stepping.{IsOut, IsStep, Steps, Tries, flux_in, net_in};
 ghost use Rattle.amr_num.specs.Numbers.{Within};
@@ -25,6 +27,7 @@ use step_advect::{flux, settled};
 #[derive(Clone, Copy, Debug, PartialEq, Eq)]
 pub struct Above {
     pub cell: CellAt,
+    /// What it would hold.
     pub value: i128,
 }
 
@@ -53,7 +56,7 @@ fn speeds_together(speeds: [i64; 3]) -> u64
 
 /// Whether the speeds keep the Courant limit: together they move at most one finest cell a step.
 #[tactic(auto, unfolding(mesh_model::specs::Stops::keeps_courant))]
-pub fn keeps_courant(shape: &Shape, speeds: [i64; 3]) -> bool
+fn keeps_courant(shape: &Shape, speeds: [i64; 3]) -> bool
     requires level { shape.now.max ≤ 10 }
     requires speeds { AreThree (2 ^ 20) speeds }
     ensures { result ≡ stops.keeps_courant shape.now (three speeds) }
@@ -301,7 +304,7 @@ fn step_block(
 
 /// Writes what all cells hold after the step, up to the first that is out of range: blocks go in Morton order, and in
 /// a block x goes fastest, then y, then z. The tree has the roots of the domain as its leaves.
-pub fn step(
+fn step(
     shape: &Shape,
     tree: &Tree,
     contents: &[i64],

@@ -1,3 +1,5 @@
+//! Which scripts are run.
+
 ghost use Rattle.amr_engine.specs.Built as plain;
 ghost use Rattle.mesh_model.specs.Commands.{plain_script};
 ghost use Rattle.std.specs.List.{list_all};

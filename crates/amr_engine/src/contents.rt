@@ -1,3 +1,5 @@
+//! The contents of a cell variable on the root blocks, one list by coordinate.
+
 ghost use Rattle.amr_engine.specs.Contents.{AllAtMost, IsBlock, IsCell, IsFilledBelow, IsRoots, cell_at, cell_count, content_in, place, row_contents};
 ghost use Rattle.amr_num.specs.Numbers.{Within, sum_below};
 ghost use Rattle.block_tree.specs.GridOf.{grid_of};

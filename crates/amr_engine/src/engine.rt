@@ -1,3 +1,5 @@
+//! The mesh of a run, and each command on it.
+
 use crate::advection::{Hindrance, try_step};
 use crate::contents::{fill_all, fill_box, total, zero_list, zero_outs, zeros};
 use crate::hierarchy::Hierarchy;
@@ -34,6 +36,7 @@ pub enum Cause {
 /// A command that was stopped: the number of its line, and why.
 #[derive(Clone, Copy, Debug, PartialEq, Eq)]
 pub struct Stop {
+    /// The line of the script, from 1.
     pub line: u32,
     pub cause: Cause,
 }
@@ -174,7 +177,7 @@ impl Engine {
         ensures text { OnOk result (Takes (K.taken sink.old) (text_of (plain self.old) line.now.command) (K.taken sink.new)) }
         ensures calm { OnOk result (K.faults sink.new ≡ K.faults sink.old) }
 
-        // It stops exactly where the mesh refuses the command, or the sink fails; it leaves the mesh then.
+        // It stops exactly where the mesh refuses the command, or the sink fails, or memory is wanting; it leaves the mesh then.
         ensures allowed { OnOk result (refusal (plain self.old) line.now.command ≡ None) }
         ensures line { IfErr result (λ stop. stop.line ≡ line.now.number) }
         ensures cause { IfErr result (λ stop. IsCause stop.cause (plain self.old) line.now.command (record { before = K.taken sink.old; after = K.taken sink.new; faults = K.faults sink.old; new_faults = K.faults sink.new })) }
@@ -314,12 +317,9 @@ impl Engine {
     }
 
     /// Prints the numbers of a variable.
-    fn print_variable<K: Sink>(&mut self, group: Group, sink: &mut K) -> Result<(), Failed>
-        requires { IsGroup (declared_of self.old).names group }
-        ensures printed { Prints result (K.taken sink.old) (variable_text (values_of self.old) group) (K.taken sink.new) (K.faults sink.old) (K.faults sink.new) }
-        ensures mesh { values_of self.new ≡ values_of self.old }
-        ensures declared { declared_of self.new ≡ declared_of self.old }
-        ensures hierarchy { self.new.hierarchy ≡ self.old.hierarchy }
+    fn print_variable<K: Sink>(&self, group: Group, sink: &mut K) -> Result<(), Failed>
+        requires { IsGroup (declared_of self.now).names group }
+        ensures { Prints result (K.taken sink.old) (variable_text (values_of self.now) group) (K.taken sink.new) (K.faults sink.old) (K.faults sink.new) }
     {
         match group {
             Group::Cell(var) => {
@@ -336,12 +336,9 @@ impl Engine {
     }
 
     /// Prints the total of a cell variable.
-    fn print_total<K: Sink>(&mut self, var: u32, sink: &mut K) -> Result<(), Failed>
-        requires { IsCellVariable (declared_of self.old).names var }
-        ensures printed { Prints result (K.taken sink.old) (total_text (values_of self.old) var) (K.taken sink.new) (K.faults sink.old) (K.faults sink.new) }
-        ensures mesh { values_of self.new ≡ values_of self.old }
-        ensures declared { declared_of self.new ≡ declared_of self.old }
-        ensures hierarchy { self.new.hierarchy ≡ self.old.hierarchy }
+    fn print_total<K: Sink>(&self, var: u32, sink: &mut K) -> Result<(), Failed>
+        requires { IsCellVariable (declared_of self.now).names var }
+        ensures { Prints result (K.taken sink.old) (total_text (values_of self.now) var) (K.taken sink.new) (K.faults sink.old) (K.faults sink.new) }
     {
         let total = total(
             &self.declared.shape,

@@ -1,3 +1,5 @@
+//! The tree of a mesh with the marks on its leaves.
+
 ghost use Rattle.amr_engine.specs.Marking.{AreMarks};
 ghost use Rattle.block_tree.specs.GridOf.{grid_of};
 ghost use Rattle.block_tree.specs.Marked.{room as room_of};

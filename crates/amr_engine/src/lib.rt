@@ -1,11 +1,11 @@
-// The commands of a script, done one after the other on a mesh.
+//! The commands of a script, done one after the other on a mesh.
 #![tactic(auto)]
 
 mod advection;
 pub mod built;
-pub mod contents;
+mod contents;
 pub mod engine;
-pub mod hierarchy;
+mod hierarchy;
 mod values;
 
 pub use mesh_model::names::Names;

@@ -1,11 +1,11 @@
 //! The numbers of a cell variable, as reports read them.
 
 ghost use Rattle.amr_engine.specs.Contents.{IsRoots, cell_count};
-ghost use Rattle.amr_engine.specs.Values.{IsWithin, number_in};
+ghost use Rattle.amr_engine.specs.Values.{IsWithin, is_cell_array, number_in};
 ghost use Rattle.block_tree.specs.GridOf.{grid_of};
 ghost use Rattle.block_tree.specs.Numbered.{IsNode};
 ghost use Rattle.mesh_model.specs.Start.{start_grid};
-ghost use Rattle.std.specs.Prelude.{◌≡◌, length};
+ghost use Rattle.std.specs.Prelude.{◌≡◌, length, true};
 
 use crate::contents::{cell_in, place_of};
 use block_tree::Tree;
@@ -24,7 +24,7 @@ pub struct CellValues<'a> {
 
 impl<'a> BlockValues for CellValues<'a> {
     ghost is_there = { λ s var node i j k.
-        IsNode (grid_of s.tree.now) node × IsWithin s.shape.now.n i × IsWithin s.shape.now.n j × IsWithin s.shape.now.n k };
+        (is_cell_array var ≡ true) × IsNode (grid_of s.tree.now) node × IsWithin s.shape.now.n i × IsWithin s.shape.now.n j × IsWithin s.shape.now.n k };
 
     ghost number = { λ s. number_in s.shape.now (grid_of s.tree.now) s.contents.now };
 

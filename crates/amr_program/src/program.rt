@@ -1,3 +1,5 @@
+//! The program, from words and the bytes of a script to a status and printed bytes.
+
 ghost use Rattle.amr_program.specs.Answer.{AlongRun, IsAccepted, IsAnswer, IsRefused, IsStoppedWith, TookBeforeMemory, TookPart, plain_answer, read_in, script_in};
 ghost use Rattle.amr_program.specs.Lines.{read_line};
 ghost use Rattle.amr_program.specs.Outcome.{Outcome};

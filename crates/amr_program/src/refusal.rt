@@ -1,3 +1,5 @@
+//! Why a script is not run.
+
 use mesh_model::script::Reason;
 
 /// Why a script is not run.

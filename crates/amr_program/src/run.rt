@@ -1,3 +1,5 @@
+//! The run of a script: its commands one after the other, and how it ends.
+
 ghost use Rattle.amr_engine.specs.Plain.{declared_of, plain};
 ghost use Rattle.amr_program.specs.Answer.{admitted, status_of};
 ghost use Rattle.amr_program.specs.Lines.{memory_line, read_line, refusal_line, words_line};

@@ -1,3 +1,5 @@
+//! How a run ends, and its exit number.
+
 use mesh_model::stops::Refusal;
 
 /// How a run of the program ended.

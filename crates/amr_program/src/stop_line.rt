@@ -1,3 +1,5 @@
+//! The line of a command that the mesh refuses.
+
 ghost use Rattle.amr_program.specs.Lines.{more_words};
 ghost use Rattle.mesh_model.specs.StopTexts as plain;
 ghost use Rattle.mesh_model.specs.StopTexts.{refusal_words, spot_words};

@@ -253,7 +253,7 @@ fn a_fault_ends_a_run_that_moves(rt: HostRuntime) -> Result<(), Fail> {
 }
 
 /// Scripts that refine and merge, each with how it ends and what it prints.
-const GROWN: [(&[u8], Status, &[u8]); 4] = [
+const GROWN: [(&[u8], Status, &[u8]); 5] = [
     // Roots across a corner of the domain, through periodic sides, are refined besides.
     (
         b"domain 4 4 4\ncells 4 1\nlevels 0 2\nmark refine 0 0 0 0\nregrid\nprint size\nmark refine 1 0 0 0\nregrid\nprint size\nend\n",
@@ -273,7 +273,19 @@ const GROWN: [(&[u8], Status, &[u8]); 4] = [
         b"error: line 5: place block 1 0 0 0\n",
     ),
     (BESIDE_A_FINER_ROOT, Status::Done, TEN_NODES),
+    (
+        MERGED,
+        Status::Done,
+        b"mesh nodes 9 leaves 8\nmesh nodes 9 leaves 8\nmesh nodes 1 leaves 1\n",
+    ),
 ];
+
+/// A root that is refined. Seven marks to merge its children do nothing, and eight merge them.
+const MERGED: &[u8] = b"domain 1 1 1\nlevels 0 1\nmark refine 0 0 0 0\nregrid\nprint size\n\
+mark derefine 1 0 0 0\nmark derefine 1 1 0 0\nmark derefine 1 0 1 0\nmark derefine 1 1 1 0\n\
+mark derefine 1 0 0 1\nmark derefine 1 1 0 1\nmark derefine 1 0 1 1\nregrid\nprint size\n\
+mark derefine 1 0 0 0\nmark derefine 1 1 0 0\nmark derefine 1 0 1 0\nmark derefine 1 1 1 0\n\
+mark derefine 1 0 0 1\nmark derefine 1 1 0 1\nmark derefine 1 0 1 1\nmark derefine 1 1 1 1\nregrid\nprint size\nend\n";
 
 /// Two roots, of which the first is refined, between outflow sides.
 const BESIDE_A_FINER_ROOT: &[u8] =

@@ -82,6 +82,7 @@ impl Line {
         self.text.push_str("\n");
     }
 
+    /// What stands in the line.
     pub fn as_bytes(&self) -> &[u8]
         ensures { result.now ≡ self.now }
     {

@@ -68,9 +68,6 @@ pub record AreSetBelow (node : ℕ) (new : ℕ → Bool) (before now : List Bool
   pub done : (k : ℕ) → k < node → flag_in now k ≡ new k
   pub rest : (k : ℕ) → node ≤ k → flag_in now k ≡ flag_in before k
 
-pub none_set : (new : ℕ → Bool) (flags : List Bool) → AreSetBelow 0 new flags flags
-none_set new flags = record { size = refl; done = λ k h. absurd (omega arith); rest = λ k h. refl }
-
 module _ (node : ℕ) (new : ℕ → Bool) (before now : List Bool) (h : AreSetBelow node new before now) where
   -- one more flag is written
   pub one_set : (v : Bool) → node < length before → v ≡ new node → AreSetBelow (node + 1) new before (set now node v)

@@ -49,9 +49,6 @@ required_is false r s h = refl
 pub all_children : (p : BlockAt → Bool) (b : BlockAt) → ((q : ℕ) → q < 8 → p (child_block b q) ≡ true) → list_all p (children b) ≡ true
 all_children p b h = for_all p (children b) (λ c i. let q = from_children b c i in ap p (sym q.2) ∙ h q.0 q.1)
 
-pub some_child : (p : BlockAt → Bool) (b : BlockAt) (q : ℕ) → q < 8 → p (child_block b q) ≡ false → list_all p (children b) ≡ false
-some_child p b q l h = refuted _ (λ t. let all = of_all p (child_block b q) (children b) (in_children b q l) t in cc)
-
 -- no child of a leaf is a leaf
 no_leaf_below : (g : Grid) → Valid g → (b : BlockAt) (q : ℕ) → is_leaf_block g b ≡ true → is_leaf_block g (child_block b q) ≡ false
 no_leaf_below g valid b q h = refuted _ (λ t.

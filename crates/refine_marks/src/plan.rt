@@ -19,7 +19,9 @@ use std::alloc::Global;
 /// Which leaves of a tree are refined, and which parents merged: in each list one flag for each node.
 #[derive(Drop)]
 pub struct Plan {
+    /// The leaves that are refined.
     pub refine: Vec<bool>,
+    /// The parents whose eight children are merged.
     pub merge: Vec<bool>,
 }
 

@@ -16,9 +16,10 @@ pub trait SetMarks {
     /// These are marks of the tree with a grid.
     ghost are_marks_of: { Grid → Self → Type 0 };
 
-    /// The sets of marked leaves.
+    /// The leaves marked to be refined.
     ghost refine_set: { Grid → Self → BlockAt → Bool };
 
+    /// The leaves marked to be merged.
     ghost derefine_set: { Grid → Self → BlockAt → Bool };
 
     /// For how many nodes there is room.

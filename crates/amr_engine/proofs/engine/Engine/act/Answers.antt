@@ -11,7 +11,7 @@ use Rattle.amr_engine.specs.Plain.{declared_of, plain, values_of}
 use Rattle.amr_report.specs.Printing.{Prints}
 use Rattle.amr_engine.specs.Stopping.{Written}
 use Rattle.amr_engine.proofs.Acted.{acts_changing, acts_printing, acts_regrowing}
-use Rattle.amr_engine.proofs.Lifted.{lifted, some_of_group, stays_lifted, text_lifted, total_lifted}
+use Rattle.amr_engine.proofs.Lifted.{lifted, some_of_group, text_lifted, total_lifted}
 use Rattle.amr_engine.proofs.engine.Engine.act.Goals as goal
 
 pub regrid-requires : goal.regrid-requires
@@ -69,9 +69,8 @@ returns-in-PrintVar-clause-acts g c =
     let fits = subst (IsCommandOf (declared_of self)) c.in-PrintVar.is c.requires.fits in
     let some = some_of_group self.declared.names group self.uniform.faces self.uniform.edges fits in
     let w : Written = record { before = g.K.Sink.taken c.args.sink.now; after = g.K.Sink.taken new.sink; faults = g.K.Sink.faults c.args.sink.now; new_faults = g.K.Sink.faults new.sink } in
-    let printed = subst (λ text. Prints c.print_variable.result w.before text w.after w.faults w.new_faults) (text_lifted self group some) c.print_variable.ensures.printed in
-    let stays = stays_lifted self new.self c.print_variable.ensures.declared c.print_variable.ensures.hierarchy some c.print_variable.ensures.mesh in
-    acts_printing c.print_variable.result c.written-in-PrintVar.result (plain self) (plain new.self) c.args.command (PrintVar group) w c.in-PrintVar.is refl refl printed c.written-in-PrintVar.ensures stays
+    let printed = subst (λ text. Prints c.print_variable.result w.before text w.after w.faults w.new_faults) (text_lifted self group some) c.print_variable.ensures in
+    acts_printing c.print_variable.result c.written-in-PrintVar.result (plain self) (plain self) c.args.command (PrintVar group) w c.in-PrintVar.is refl refl printed c.written-in-PrintVar.ensures refl
 
 pub returns-in-Total-clause-acts : goal.returns-in-Total-clause-acts
 unfolding refusal
@@ -81,9 +80,8 @@ returns-in-Total-clause-acts g c =
     let fits = subst (IsCommandOf (declared_of self)) c.in-Total.is c.requires.fits in
     let some : 0 < length self.declared.names.cells = omega (arith, fits) in
     let w : Written = record { before = g.K.Sink.taken c.args.sink.now; after = g.K.Sink.taken new.sink; faults = g.K.Sink.faults c.args.sink.now; new_faults = g.K.Sink.faults new.sink } in
-    let printed = subst (λ text. Prints c.print_total.result w.before text w.after w.faults w.new_faults) (total_lifted self c.in-Total.var some) c.print_total.ensures.printed in
-    let stays = stays_lifted self new.self c.print_total.ensures.declared c.print_total.ensures.hierarchy some c.print_total.ensures.mesh in
-    acts_printing c.print_total.result c.written-in-Total.result (plain self) (plain new.self) c.args.command (Total c.in-Total.var) w c.in-Total.is refl refl printed c.written-in-Total.ensures stays
+    let printed = subst (λ text. Prints c.print_total.result w.before text w.after w.faults w.new_faults) (total_lifted self c.in-Total.var some) c.print_total.ensures in
+    acts_printing c.print_total.result c.written-in-Total.result (plain self) (plain self) c.args.command (Total c.in-Total.var) w c.in-Total.is refl refl printed c.written-in-Total.ensures refl
 
 pub returns-in-PrintSize-clause-acts : goal.returns-in-PrintSize-clause-acts
 unfolding refusal engine_mesh

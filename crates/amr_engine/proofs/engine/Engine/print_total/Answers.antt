@@ -18,9 +18,9 @@ use Rattle.amr_engine.proofs.engine.Engine.print_total.Goals as goal
 pub total-total-requires-clause-whole : goal.total-total-requires-clause-whole
 total-total-requires-clause-whole g c = let self = c.args.self.now in whole_list self.declared self.contents.items self.outs.items c.args.var c.index.result.now c.deref.result.now self.uniform c.requires c.index.ensures c.deref.ensures.value
 
-pub returns-clause-printed : goal.returns-clause-printed
+pub returns : goal.returns
 unfolding uniform_mesh
-returns-clause-printed g c =
+returns g c =
     let self = c.args.self.now in
     let text : List ℕ → ℤ → ℤ → List ℕ = λ name total out. text_line (codes "total" ∷ name ∷ signed_decimal total ∷ codes "out" ∷ signed_decimal out ∷ []) in
     let told : List ℕ → ℤ → ℤ → Type 0 = λ name total out. Prints c.print_total.result (g.K.Sink.taken c.args.sink.now) (text name total out) (g.K.Sink.taken c.print_total.new.sink) (g.K.Sink.faults c.args.sink.now) (g.K.Sink.faults c.print_total.new.sink) in

@@ -18,8 +18,8 @@ invariant_of-values g c =
       whole = whole_list self.declared self.contents.items self.outs.items c.in-Cell.var c.index.result.now c.deref.result.now self.uniform declared c.index.ensures c.deref.ensures.value;
     }
 
-pub returns-clause-printed : goal.returns-clause-printed
-returns-clause-printed g c =
+pub returns : goal.returns
+returns g c =
     let self = c.args.self.now in
     let d = self.declared in
     let var = c.in-Cell.var in
