@@ -1,11 +1,9 @@
 -- Marks on the leaves of a tree, and what a mesh with them has.
-use Rattle.std.proofs.Common.{◌≡◌, ◌≢◌, ℕ, ◌<◌, ◌≤◌, Bool, true, false, ◌||◌, nat_lt, nat_le, if◌then◌else◌, List, length, Option, Some, None, refl, sym, ap, ap₂, subst, ◌∙◌, arith, IsErr, inl, inr, ltb-true, lt-ltb}
+use Rattle.std.proofs.Common.{◌≡◌, ℕ, ◌<◌, ◌≤◌, Bool, true, false, ◌||◌, nat_lt, nat_le, List, length, Some, None, refl, sym, ap, ap₂, ◌∙◌, arith, lt-ltb}
 use Rattle.std.proofs.lemmas.Bool.{le-ltb, lt-leb, or_left}
-use Rattle.std.specs.Prelude.{◌↔◌}
 use Rattle.amr_num.specs.declared.BlockAt.{BlockAt}
 use Rattle.mesh_model.specs.declared.script.Command.TheVariants.{MarkDerefine, MarkRefine}
 use Rattle.mesh_model.specs.declared.stops.LevelStop.{LevelStop}
-use Rattle.mesh_model.specs.declared.stops.Refusal.{Refusal}
 use Rattle.mesh_model.specs.declared.stops.Refusal.TheVariants as refusals
 use Rattle.mesh_model.specs.Limits.{most_nodes}
 use Rattle.mesh_model.specs.Order.{nodes}
@@ -20,12 +18,10 @@ use Rattle.block_tree.specs.declared.tree.Tree.{Tree}
 use Rattle.block_tree.specs.GridOf.{grid_of}
 use Rattle.block_tree.specs.Growing.{grid_after}
 use Rattle.block_tree.specs.Marked.{IsMarksOf, derefine_of, refine_of}
-use Rattle.block_tree.specs.Numbered.{block_at}
 use Rattle.block_tree.proofs.Flags.{same_shows}
 use Rattle.refine_marks.specs.declared.plan.Plan.{Plan}
 use Rattle.refine_marks.specs.Flags.{AddsBlock, IsSameSet}
 use Rattle.refine_marks.specs.Planned.{HasMarks, merged_by, refined_by}
-use Rattle.amr_engine.specs.declared.engine.Cause.{Cause}
 use Rattle.amr_engine.specs.declared.engine.Cause.TheVariants as causes
 use Rattle.amr_engine.specs.Marking.{AreMarks}
 use Rattle.amr_engine.specs.Stopping.{Refuses}

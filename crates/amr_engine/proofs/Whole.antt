@@ -1,8 +1,7 @@
 -- The mesh of an engine by its tree, its lists of contents and its marks.
-use Rattle.std.proofs.Common.{◌≡◌, ◌≢◌, ℕ, zero, suc, ◌+◌, ◌^◌, ◌<◌, ◌≤◌, Bool, true, false, ◌&&◌, if◌then◌else◌, List, [], ◌∷◌, Option, None, Some, Result, Ok, Err, length, get_or, find, ℤ, pos, unsigned_abs, refl, sym, ap, ap₂, subst, ◌∙◌, arith, inl, inr}
+use Rattle.std.proofs.Common.{◌≡◌, ℕ, ◌^◌, ◌<◌, ◌≤◌, Bool, true, false, ◌&&◌, if◌then◌else◌, List, [], ◌∷◌, Option, None, Some, Result, Ok, Err, length, get_or, find, ℤ, pos, unsigned_abs, refl, sym, ap, ap₂, subst, ◌∙◌, arith, inl, inr}
 use Rattle.std.proofs.Math.ListN.{get_or-eq_default}
-use Rattle.std.proofs.lemmas.Bool.{and_right, cases_Bool, cases_lt, le-ltb, ltb-true, le-leb}
-use Rattle.std.specs.List.{range_with_len}
+use Rattle.std.proofs.lemmas.Bool.{and_right, cases_lt, le-ltb, le-leb}
 use Rattle.std.specs.Option.{option_map, option_or}
 use Rattle.amr_num.specs.Numbers.{Within}
 use Rattle.amr_num.specs.declared.BlockAt.{BlockAt}
@@ -10,30 +9,24 @@ use Rattle.amr_num.specs.declared.CellAt.{CellAt}
 use Rattle.amr_num.specs.declared.FaceAt.{FaceAt}
 use Rattle.amr_num.specs.declared.EdgeAt.{EdgeAt}
 use Rattle.mesh_model.specs.declared.script.Command.{Command}
-use Rattle.mesh_model.specs.declared.script.Command.TheVariants.{Advect, FillAll, FillBox, MarkDerefine, MarkRefine, Regrid}
+use Rattle.mesh_model.specs.declared.script.Command.TheVariants.{MarkDerefine, MarkRefine, Regrid}
 use Rattle.mesh_model.specs.declared.script.Declared.{Declared}
 use Rattle.mesh_model.specs.declared.stops.RangeStop.{RangeStop}
-use Rattle.mesh_model.specs.declared.stops.Refusal.{Refusal}
 use Rattle.mesh_model.specs.declared.stops.Refusal.TheVariants as refusals
 use Rattle.mesh_model.specs.Limits.{most_nodes}
 use Rattle.mesh_model.specs.Order.{nodes}
-use Rattle.mesh_model.specs.Plain.{Grid, Mesh, is_canonical, is_canonical_edge, is_leaf, is_leaf_edge, is_leaf_face, on_cells, on_edges, on_faces}
+use Rattle.mesh_model.specs.Plain.{Grid, Mesh, is_canonical, is_canonical_edge, is_leaf, is_leaf_edge, is_leaf_face, on_cells}
 use Rattle.mesh_model.specs.RangeWalk.{cell_above, cells_walked, edge_above, edges_walked, face_above, faces_walked, first_cell_above, first_excess, first_of_all, is_above, out_above, variables}
 use Rattle.mesh_model.specs.Regrid.{new_grid, regrid}
-use Rattle.mesh_model.specs.Run.{mesh_after, text_of}
+use Rattle.mesh_model.specs.Run.{mesh_after}
 use Rattle.mesh_model.specs.Setting.{mark_derefine, mark_refine, with_marks}
-use Rattle.mesh_model.specs.Start.{start_grid, start_mesh}
+use Rattle.mesh_model.specs.Start.{start_grid}
 use Rattle.mesh_model.specs.Stops.{nodes_of, range_of, refusal}
 use Rattle.mesh_model.specs.Valid.{FewNodes, InRange, ValidMesh}
-use Rattle.mesh_model.specs.Views.{cell_view, edge_view, face_view}
 use Rattle.mesh_model.proofs.LeafSums.{off_leaf}
 use Rattle.mesh_model.proofs.ZeroViews.{no_cell_views, no_edge_views, no_face_views}
-use Rattle.block_tree.specs.declared.marks.Marks.{Marks}
-use Rattle.block_tree.specs.declared.tree.Tree.{Tree}
-use Rattle.block_tree.specs.GridOf.{grid_of}
 use Rattle.block_tree.specs.Marked.{derefine_of, refine_of}
 use Rattle.block_tree.proofs.Facts.{known}
-use Rattle.refine_marks.specs.Planned.{HasMarks}
 use Rattle.amr_engine.specs.declared.engine.Cause.{Cause}
 use Rattle.amr_engine.specs.declared.engine.Cause.TheVariants as causes
 use Rattle.amr_engine.specs.declared.hierarchy.Hierarchy.{Hierarchy}
@@ -41,8 +34,7 @@ use Rattle.amr_engine.specs.Contents.{IsUniform, KeepsLimits, content_in, place}
 use Rattle.amr_engine.specs.EngineMesh.{engine_mesh}
 use Rattle.amr_engine.specs.Growth as growth
 use Rattle.amr_engine.specs.Growth.{HasHierarchy, Regrids, grid_in}
-use Rattle.amr_engine.specs.Marking.{AreMarks}
-use Rattle.amr_engine.specs.Stopping.{Changes, Refuses, Regrows}
+use Rattle.amr_engine.specs.Stopping.{Changes, Regrows}
 use Rattle.amr_engine.specs.UniformMesh.{uniform_mesh}
 use Rattle.amr_engine.proofs.Marking.{marks_are}
 

@@ -9,10 +9,10 @@ use Rattle.mesh_model.specs.Order.{IsIn}
 use Rattle.mesh_model.specs.Plain.{Grid, Mesh, is_leaf_block}
 use Rattle.mesh_model.specs.Touch.{touches}
 use Rattle.mesh_model.specs.Valid.{Valid, ValidMesh}
-use Rattle.mesh_model.proofs.Closure.{in_children, from_children}
+use Rattle.mesh_model.proofs.Closure.{from_children}
 use Rattle.mesh_model.proofs.Levels.{is_child}
 use Rattle.mesh_model.proofs.Ruled.{merged_may}
-use Rattle.mesh_model.proofs.Tests.{and_left, for_all, of_all, or_right, refuted}
+use Rattle.mesh_model.proofs.Tests.{and_left, for_all, or_right, refuted}
 use Rattle.mesh_model.proofs.Tiling.{child_in, leaf_says}
 use Rattle.block_tree.proofs.Leaves.{leaf_whole}
 use Rattle.block_tree.specs.declared.marks.Marks.{Marks}

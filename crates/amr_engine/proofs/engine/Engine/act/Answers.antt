@@ -1,6 +1,6 @@
-use Rattle.std.proofs.Common.{◌≡◌, ◌<◌, ◌^◌, Ok, length, refl, sym, ap, subst, ◌∙◌, arith, eqb-true}
+use Rattle.std.proofs.Common.{◌<◌, ◌^◌, Ok, length, refl, sym, ap, subst, ◌∙◌, arith, eqb-true}
 use Rattle.amr_num.proofs.Machine.{kept}
-use Rattle.mesh_model.specs.declared.script.Command.TheVariants.{Advect, FillAll, FillBox, MarkDerefine, MarkRefine, PrintMesh, PrintSize, PrintTree, PrintVar, Regrid, Total}
+use Rattle.mesh_model.specs.declared.script.Command.TheVariants.{Advect, FillAll, FillBox, MarkDerefine, MarkRefine, PrintMesh, PrintSize, PrintTree, PrintVar, Total}
 use Rattle.mesh_model.specs.Commands.{IsCommandOf}
 use Rattle.mesh_model.specs.Fill.{fill_all, fill_box}
 use Rattle.mesh_model.specs.RangeWalk.{first_excess}

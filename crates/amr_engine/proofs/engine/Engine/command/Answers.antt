@@ -1,4 +1,4 @@
-use Rattle.std.proofs.Common.{◌≡◌, sym, subst}
+use Rattle.std.proofs.Common.{sym, subst}
 use Rattle.mesh_model.specs.Run.{KeepsOuts, KeepsTotals, StaysPositive}
 use Rattle.mesh_model.specs.Valid.{ValidMesh}
 use Rattle.mesh_model.proofs.RunLaws.{keeps_outs, keeps_totals, stays_positive}

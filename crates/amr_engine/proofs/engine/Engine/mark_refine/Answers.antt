@@ -1,4 +1,4 @@
-use Rattle.std.proofs.Common.{◌≡◌, ◌∙◌, ap}
+use Rattle.std.proofs.Common.{◌∙◌, ap}
 use Rattle.amr_engine.specs.Plain.{contents_of}
 use Rattle.amr_engine.proofs.Whole.{has_own, mesh_in, refine_changes, refine_grid}
 use Rattle.amr_engine.proofs.engine.Engine.mark_refine.Goals as goal

@@ -1,4 +1,4 @@
-use Rattle.std.proofs.Common.{◌≡◌, ◌∙◌, arith}
+use Rattle.std.proofs.Common.{◌∙◌, arith}
 use Rattle.amr_engine.specs.Plain.{contents_of}
 use Rattle.amr_engine.proofs.Whole.{has_own, mesh_in, regrows, same_shape}
 use Rattle.amr_engine.proofs.engine.Engine.regrid.Goals as goal

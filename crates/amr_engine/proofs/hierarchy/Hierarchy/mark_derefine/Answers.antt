@@ -1,9 +1,9 @@
-use Rattle.std.proofs.Common.{◌≡◌, ◌≤◌, true, subst, sym, ap, ◌∙◌, refl}
+use Rattle.std.proofs.Common.{◌≤◌, subst, sym, ap, ◌∙◌, refl}
 use Rattle.block_tree.specs.GridOf.{grid_of}
-use Rattle.block_tree.specs.Marked.{derefine_of, refine_of}
+use Rattle.block_tree.specs.Marked.{derefine_of}
 use Rattle.refine_marks.specs.Flags.{AddsBlock}
 use Rattle.refine_marks.specs.Planned.{HasMarks}
-use Rattle.amr_engine.proofs.Marking.{are_marks, marks_are, no_leaf_derefine, derefine_set, too_coarse}
+use Rattle.amr_engine.proofs.Marking.{marks_are, no_leaf_derefine, derefine_set, too_coarse}
 use Rattle.amr_engine.proofs.hierarchy.Hierarchy.mark_derefine.Goals as goal
 
 pub returns-in-None : goal.returns-in-None
