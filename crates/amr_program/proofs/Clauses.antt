@@ -14,8 +14,9 @@ use Rattle.amr_program.specs.declared.status.Status.TheVariants as status
 use Rattle.amr_program.specs.declared.program.TheConstants.{LIMIT}
 use Rattle.amr_program.specs.declared.refusal.Refusal.{Refusal}
 use Rattle.amr_program.specs.declared.refusal.Refusal.TheVariants as refusals
-use Rattle.amr_program.specs.Answer.{IsAccepted, IsAnswer, IsRefused, IsStoppedWith, MayPrint, TookBeforeMemory, TookPart, admitted, answer_of, first_texts, ending, plain_answer, read_in, script_in, status_of, stop_in}
+use Rattle.amr_program.specs.Answer.{IsAccepted, IsAnswer, IsRefused, IsStoppedWith, MayPrint, MayWant, TookBeforeMemory, TookPart, admitted, answer_of, first_texts, ending, plain_answer, read_in, script_in, status_of, stop_in}
 use Rattle.amr_program.specs.Lines.{memory_line, read_line, words_line}
+use Rattle.amr_program.proofs.Commands.{at_first}
 use Rattle.amr_program.specs.Outcome.{Ended, Failed, Outcome, Source, WrotePart}
 
 -- ---- facts of a value that may be there
@@ -231,21 +232,21 @@ module _ (words : List (List ℕ)) (result : Status) (s : Source) (w : Written) 
   ]
 
   -- the line that a run ends with was written in part
-  line_part : (line : List ℕ) → WrotePart line w → (all : List ℕ) → MayPrint words all line → TookPart words all w.before w.after
+  line_part : (line : List ℕ) → WrotePart line w → (all : List ℕ) → MayPrint words all (Rose s.faults s.new_faults) line → TookPart words all (Rose s.faults s.new_faults) w.before w.after
   line_part line e all may = (line, may, e.takes)
 
-  pub part : Outcome words result s w → result ≡ status.WriteFault → IfSome s.before (λ bytes. TookPart words bytes w.before w.after)
+  pub part : Outcome words result s w → result ≡ status.WriteFault → IfSome s.before (λ bytes. TookPart words bytes (Rose s.faults s.new_faults) w.before w.after)
   part (inl o) is = elim o.ended [
     | inl e ↦ absurd (cc e.0)
     | inr e ↦ always s.before _ (λ all. line_part words_line e.1 all (inl (sym (words_text words all o.some))))
   ]
   part (inr (inl o)) is = elim o.ended [
     | inl e ↦ absurd (cc e.0)
-    | inr e ↦ always s.before _ (λ all. line_part read_line e.1 all (inr (inl refl)))
+    | inr e ↦ always s.before _ (λ all. line_part read_line e.1 all (inr (o.none, inl (o.rose, refl))))
   ]
   part (inr (inr (inl o))) is = elim o.ended [
     | inl e ↦ absurd (cc e.0)
-    | inr e ↦ always s.before _ (λ all. line_part memory_line e.1 all (inr (inr (0, no_texts (script_in all)))))
+    | inr e ↦ always s.before _ (λ all. line_part memory_line e.1 all (inr (o.none, inr (0, at_first (script_in all), no_texts (script_in all)))))
   ]
     where
       no_texts : (read : Result PlainScript Refusal) → memory_line ≡ first_texts read 0 ++ memory_line
@@ -255,21 +256,21 @@ module _ (words : List (List ℕ)) (result : Status) (s : Source) (w : Written) 
     | inl a ↦ absurd (not_answer (admitted (script_of None o.bytes)) result _ a.status_is is write_no)
     | inr other ↦ elim other [
       | inl a ↦ absurd (cc a.status_is)
-      | inr a ↦ carried s.before _ _ o.left (λ all h. (a.text, subst (λ ws. MayPrint ws all a.text) (sym o.none) (may a all h.0), a.wrote.takes))
+      | inr a ↦ carried s.before _ _ o.left (λ all h. (a.text, subst (λ ws. MayPrint ws all (Rose s.faults s.new_faults) a.text) (sym o.none) (may a all h.0), a.wrote.takes))
     ]
   ]
     where
-      may : (a : Failed (admitted (script_of None o.bytes)) result w) (all : List ℕ) → o.bytes ≡ take LIMIT all → MayPrint [] all a.text
+      may : (a : Failed (admitted (script_of None o.bytes)) result w) (all : List ℕ) → o.bytes ≡ take LIMIT all → MayPrint [] all (Rose s.faults s.new_faults) a.text
       may a all e = elim a.text_is [
         | inl t ↦ inl (t ∙ ap (λ b. (answer_of (admitted (script_of None b))).text) e)
-        | inr t ↦ inr (inr (t.0, t.1 ∙ ap (λ b. first_texts (admitted (script_of None b)) t.0 ++ memory_line) e))
+        | inr t ↦ inr (refl, inr (t.0, subst (λ b. MayWant (admitted (script_of None b)) t.0) e t.1, t.2 ∙ ap (λ b. first_texts (admitted (script_of None b)) t.0 ++ memory_line) e))
       ]
 
   pub memory : Outcome words result s w → result ≡ status.OutOfMemory → IfSome s.before (λ bytes. TookBeforeMemory bytes w.before w.after)
   memory (inl o) is = elim o.ended [ inl e ↦ absurd (cc e.0) | inr e ↦ absurd (cc e.0) ]
   memory (inr (inl o)) is = elim o.ended [ inl e ↦ absurd (cc e.0) | inr e ↦ absurd (cc e.0) ]
   memory (inr (inr (inl o))) is = elim o.ended [
-    | inl e ↦ always s.before _ (λ all. (0, subst (λ t. Takes w.before t w.after) (no_texts (script_in all)) e.1.takes))
+    | inl e ↦ always s.before _ (λ all. (0, at_first (script_in all), subst (λ t. Takes w.before t w.after) (no_texts (script_in all)) e.1.takes))
     | inr e ↦ absurd (cc e.0)
   ]
     where
@@ -279,7 +280,7 @@ module _ (words : List (List ℕ)) (result : Status) (s : Source) (w : Written) 
   memory (inr (inr (inr o))) is = elim o.came [
     | inl a ↦ absurd (not_answer (admitted (script_of None o.bytes)) result _ a.status_is is memory_no)
     | inr other ↦ elim other [
-      | inl a ↦ carried s.before _ _ o.left (λ all h. (a.commands, subst (λ b. Takes w.before (first_texts (admitted (script_of None b)) a.commands ++ memory_line) w.after) h.0 a.wrote.takes))
+      | inl a ↦ carried s.before _ _ o.left (λ all h. (a.commands, subst (λ b. MayWant (admitted (script_of None b)) a.commands) h.0 a.wants, subst (λ b. Takes w.before (first_texts (admitted (script_of None b)) a.commands ++ memory_line) w.after) h.0 a.wrote.takes))
       | inr a ↦ absurd (cc a.status_is)
     ]
   ]

@@ -9,6 +9,7 @@ use Rattle.amr_num.specs.declared.SideKind.{SideKind}
 use Rattle.amr_num.specs.declared.SideKind.TheVariants.{Periodic}
 use Rattle.script_lang.proofs.Scripts.{script_fits, script_in_limits}
 use Rattle.mesh_model.specs.declared.script.Command.{Command}
+use Rattle.mesh_model.specs.declared.script.Command.TheVariants as command
 use Rattle.mesh_model.specs.declared.stops.Refusal as stops
 use Rattle.mesh_model.specs.declared.stops.Refusal.TheVariants as why
 use Rattle.mesh_model.specs.Coordinates.{is_periodic_kind, roots, side_index, side_kind}
@@ -36,7 +37,7 @@ use Rattle.amr_program.specs.declared.status.Status.{Status}
 use Rattle.amr_program.specs.declared.status.Status.TheVariants as status
 use Rattle.amr_program.specs.declared.refusal.Refusal.{Refusal}
 use Rattle.amr_program.specs.declared.refusal.Refusal.TheVariants as refusals
-use Rattle.amr_program.specs.Answer.{AlongRun, admitted, answer_of, done_in, ending, first_texts, read_in, script_in, status_of, stop_in}
+use Rattle.amr_program.specs.Answer.{AlongRun, MayWant, admitted, answer_of, done_in, ending, first_texts, read_in, script_in, status_of, stop_in}
 use Rattle.amr_program.specs.Lines.{memory_line, refusal_line}
 use Rattle.amr_program.specs.Outcome.{Came, Ended, RunStops, Stopped, Wrote, WrotePart}
 use Rattle.mesh_model.specs.Run.{AtEachCommand, declared_in, done, first_mesh, mesh_after, mesh_of, stop, text_of, texts}
@@ -132,14 +133,14 @@ stopped_here m now lines i number d a b c f g h l number_is so_far before calm r
 
 -- a command was stopped
 pub run_stops : (cause : Cause) (m now : Mesh) (lines : List Line) (i number : ℕ) (d : Line) (a b c : Option (List ℕ)) (f g h : ℕ) → i < length lines → number ≡ (get_or lines i d).number → Progress m lines i now → Takes a (texts m (take i lines)) b → g ≡ f →
-    IsCause cause now (get_or lines i d).command (record { before = b; after = c; faults = g; new_faults = h }) →
+    IsCause cause now (get_or lines i d).command (record { before = b; after = c; faults = g; new_faults = h }) → (cause ≡ causes.OutOfMemory → (get_or lines i d).command ≡ command.Regrid) →
     RunStops cause number m lines (record { before = a; after = c; faults = f; new_faults = h })
-run_stops (causes.Range range) m now lines i number d a b c f g h l number_is so_far before calm told = stopped_here m now lines i number d a b c f g h l number_is so_far before calm (why.Range range) told.0 told.1.taken told.1.calm
-run_stops (causes.Courant speeds) m now lines i number d a b c f g h l number_is so_far before calm told = stopped_here m now lines i number d a b c f g h l number_is so_far before calm (why.Courant speeds) told.0 told.1.taken told.1.calm
-run_stops (causes.Level stopped) m now lines i number d a b c f g h l number_is so_far before calm told = stopped_here m now lines i number d a b c f g h l number_is so_far before calm (why.Level stopped) told.0 told.1.taken told.1.calm
-run_stops (causes.PlaceBlock at) m now lines i number d a b c f g h l number_is so_far before calm told = stopped_here m now lines i number d a b c f g h l number_is so_far before calm (why.PlaceBlock at) told.0 told.1.taken told.1.calm
-run_stops (causes.Blocks count) m now lines i number d a b c f g h l number_is so_far before calm told = stopped_here m now lines i number d a b c f g h l number_is so_far before calm (why.Blocks count) told.0 told.1.taken told.1.calm
-run_stops causes.WriteFault m now lines i number d a b c f g h l number_is so_far before calm told =
+run_stops (causes.Range range) m now lines i number d a b c f g h l number_is so_far before calm told wants = stopped_here m now lines i number d a b c f g h l number_is so_far before calm (why.Range range) told.0 told.1.taken told.1.calm
+run_stops (causes.Courant speeds) m now lines i number d a b c f g h l number_is so_far before calm told wants = stopped_here m now lines i number d a b c f g h l number_is so_far before calm (why.Courant speeds) told.0 told.1.taken told.1.calm
+run_stops (causes.Level stopped) m now lines i number d a b c f g h l number_is so_far before calm told wants = stopped_here m now lines i number d a b c f g h l number_is so_far before calm (why.Level stopped) told.0 told.1.taken told.1.calm
+run_stops (causes.PlaceBlock at) m now lines i number d a b c f g h l number_is so_far before calm told wants = stopped_here m now lines i number d a b c f g h l number_is so_far before calm (why.PlaceBlock at) told.0 told.1.taken told.1.calm
+run_stops (causes.Blocks count) m now lines i number d a b c f g h l number_is so_far before calm told wants = stopped_here m now lines i number d a b c f g h l number_is so_far before calm (why.Blocks count) told.0 told.1.taken told.1.calm
+run_stops causes.WriteFault m now lines i number d a b c f g h l number_is so_far before calm told wants =
     let line = get_or lines i d in
     let rest = drop (i + 1) lines in
     let after = mesh_after now line.command in
@@ -148,9 +149,9 @@ run_stops causes.WriteFault m now lines i number d a b c f g h l number_is so_fa
     ap (texts m) all ∙ texts_append m (take i lines) (line ∷ done after rest) ∙ ap (λ x. texts m (take i lines) ++ texts x (line ∷ done after rest)) (sym so_far.mesh) ∙ sym (append_assoc (texts m (take i lines)) (text_of now line.command) (texts after (done after rest))) in
     let part = broke_within a b c (texts m (take i lines)) (text_of now line.command) (texts after (done after rest)) (texts m (done m lines)) f g h (before, calm) (told.1, told.2) whole in
     record { takes = part.0; rose = part.1 }
-run_stops causes.OutOfMemory m now lines i number d a b c f g h l number_is so_far before calm told =
+run_stops causes.OutOfMemory m now lines i number d a b c f g h l number_is so_far before calm told wants =
     let firsts : take i (done m lines) ≡ take i lines = ap (take i) so_far.done_so_far ∙ take_first (take i lines) (done now (drop i lines)) i (taken_length lines i (omega (arith, l))) in
-    (i, record { takes = subst (λ t. Takes a t c) (ap (texts m) (sym firsts)) (subst (λ x. Takes a (texts m (take i lines)) x) (sym told.taken) before); calm = told.calm ∙ calm })
+    (i, (get_or lines i d, drop (i + 1) lines, left_from lines i d l, wants refl), record { takes = subst (λ t. Takes a t c) (ap (texts m) (sym firsts)) (subst (λ x. Takes a (texts m (take i lines)) x) (sym told.taken) before); calm = told.calm ∙ calm })
   where
     taken_length : (lines : List Line) (i : ℕ) → i ≤ length lines → length (take i lines) ≡ i
     taken_length lines zero k = refl
@@ -165,12 +166,12 @@ run_stops causes.OutOfMemory m now lines i number d a b c f g h l number_is so_f
 -- ---- what came of a script
 
 -- memory was refused after the texts of the first commands
-pub starved_after : (read : Result PlainScript Refusal) (k : ℕ) (result : Status) (a b c : Option (List ℕ)) (f g h : ℕ) → Takes a (first_texts read k) b → g ≡ f → Ended status.OutOfMemory memory_line result (record { before = b; after = c; faults = g; new_faults = h }) →
+pub starved_after : (read : Result PlainScript Refusal) (k : ℕ) → MayWant read k → (result : Status) (a b c : Option (List ℕ)) (f g h : ℕ) → Takes a (first_texts read k) b → g ≡ f → Ended status.OutOfMemory memory_line result (record { before = b; after = c; faults = g; new_faults = h }) →
     Came read result (record { before = a; after = c; faults = f; new_faults = h })
-starved_after read k result a b c f g h before calm (inl e) = inr (inl (record { status_is = e.0; commands = k; wrote = record { takes = takes_more a b c (first_texts read k) memory_line before e.1.takes; calm = e.1.calm ∙ calm } }))
-starved_after read k result a b c f g h before calm (inr e) =
+starved_after read k wants result a b c f g h before calm (inl e) = inr (inl (record { status_is = e.0; commands = k; wants = wants; wrote = record { takes = takes_more a b c (first_texts read k) memory_line before e.1.takes; calm = e.1.calm ∙ calm } }))
+starved_after read k wants result a b c f g h before calm (inr e) =
     let part = broke_within a b c (first_texts read k) memory_line [] (first_texts read k ++ memory_line) f g h (before, calm) (e.1.takes, e.1.rose) (sym (append-nil (first_texts read k ++ memory_line))) in
-    inr (inr (record { status_is = e.0; text = first_texts read k ++ memory_line; text_is = inr (k, refl); wrote = record { takes = part.0; rose = part.1 } }))
+    inr (inr (record { status_is = e.0; text = first_texts read k ++ memory_line; text_is = inr (k, wants, refl); wrote = record { takes = part.0; rose = part.1 } }))
 
 nothing_taken : (a : Option (List ℕ)) → Takes a [] a
 nothing_taken None = tt
@@ -180,9 +181,14 @@ no_texts : (read : Result PlainScript Refusal) → first_texts read 0 ≡ []
 no_texts (Ok script) = refl
 no_texts (Err fault) = refl
 
+-- memory may be wanting before the first command
+pub at_first : (read : Result PlainScript Refusal) → MayWant read 0
+at_first (Ok script) = inl refl
+at_first (Err fault) = refl
+
 -- memory was refused before the first command
 pub starved_first : (read : Result PlainScript Refusal) (result : Status) (w : Written) → Ended status.OutOfMemory memory_line result w → Came read result w
-starved_first read result w e = starved_after read 0 result w.before w.before w.after w.faults w.faults w.new_faults (subst (λ t. Takes w.before t w.before) (sym (no_texts read)) (nothing_taken w.before)) refl e
+starved_first read result w e = starved_after read 0 (at_first read) result w.before w.before w.after w.faults w.faults w.new_faults (subst (λ t. Takes w.before t w.before) (sym (no_texts read)) (nothing_taken w.before)) refl e
 
 -- the script is not run
 pub refused_came : (refusal : Refusal) (result : Status) (w : Written) → Ended status.Script (refusal_line refusal) result w → Came (Err refusal) result w
@@ -244,7 +250,7 @@ came_stopped s (causes.Courant speeds) line result a b c f g h stops ends = came
 came_stopped s (causes.Level stopped) line result a b c f g h stops ends = came_refused s line (why.Level stopped) result a b c f g h stops.0 stops.1 ends
 came_stopped s (causes.PlaceBlock at) line result a b c f g h stops ends = came_refused s line (why.PlaceBlock at) result a b c f g h stops.0 stops.1 ends
 came_stopped s (causes.Blocks count) line result a b c f g h stops ends = came_refused s line (why.Blocks count) result a b c f g h stops.0 stops.1 ends
-came_stopped s causes.OutOfMemory line result a b c f g h stops ends = starved_after (Ok s) stops.0 result a b c f g h stops.1.takes stops.1.calm ends
+came_stopped s causes.OutOfMemory line result a b c f g h stops ends = starved_after (Ok s) stops.0 (inr stops.1) result a b c f g h stops.2.takes stops.2.calm ends
 came_stopped s causes.WriteFault line result a b c f g h stops ends =
     subst (λ r. Came (Ok s) r (record { before = a; after = c; faults = f; new_faults = h })) (sym ends.0)
     (came_failed s (record { before = a; after = c; faults = f; new_faults = h }) (record { takes = subst (λ x. TakesPrefix a (texts (first_mesh s) (done_in s)) x) (sym ends.1.taken) stops.takes; rose = subst (λ n. Rose f n) (sym ends.1.calm) stops.rose }))

@@ -1,5 +1,5 @@
 -- The plain answer: what a run answers and prints, as a function of its words and of the bytes of its source.
-use Rattle.std.specs.Prelude.{◌≡◌, ℕ, true, false, if◌then◌else◌, List, [], ◌∷◌, ◌++◌, Option, Some, None, Result, Ok, Err, ◌⊎◌, take}
+use Rattle.std.specs.Prelude.{◌≡◌, ℕ, true, false, if◌then◌else◌, List, [], ◌∷◌, ◌++◌, Option, Some, None, Result, Ok, Err, ◌⊎◌, drop, take}
 use Rattle.amr_engine.specs.Built.{is_built}
 use Rattle.mesh_model.specs.Commands.{PlainScript}
 use Rattle.mesh_model.specs.Grammar.{Fault, script_of}
@@ -8,6 +8,7 @@ use Rattle.mesh_model.specs.Run.{AtEachCommand, Refused, done, first_mesh, stop,
 use Rattle.mesh_model.specs.StopTexts.{stop_line}
 use Rattle.mesh_model.specs.VariableNames.{VariableNames}
 use Rattle.mesh_model.specs.declared.script.Command.{Command}
+use Rattle.mesh_model.specs.declared.script.Command.TheVariants as command
 use Rattle.mesh_model.specs.declared.script.Line.{Line}
 use Rattle.mesh_model.specs.declared.stops.Refusal as stops
 use Rattle.mesh_model.specs.declared.stops.Refusal.TheVariants as why
@@ -96,17 +97,30 @@ abbrev pub first_texts : Result PlainScript Refusal → ℕ → List ℕ
 first_texts (Ok s) k = texts (first_mesh s) (take k (done_in s))
 first_texts (Err refusal) k = []
 
--- a text that a run would have printed: the plain answer's, or what a fault of the source or want of memory ends
-abbrev pub MayPrint : List (List ℕ) → List ℕ → List ℕ → Type 0
-MayPrint words bytes text = (text ≡ (plain_answer words bytes).text) ⊎ ((text ≡ read_line) ⊎ ((k : ℕ) × (text ≡ first_texts (script_in bytes) k ++ memory_line)))
+-- the command after the first k is a regrid
+abbrev pub IsRegridAfter : ℕ → List Line → Type 0
+IsRegridAfter k lines = (line : Line) × (rest : List Line) × (drop k lines ≡ line ∷ rest) × (line.command ≡ command.Regrid)
 
--- the sink took the first bytes of a text that a run would have printed
-abbrev pub TookPart : List (List ℕ) → List ℕ → Option (List ℕ) → Option (List ℕ) → Type 0
-TookPart words bytes before after = (text : List ℕ) × MayPrint words bytes text × TakesPrefix before text after
+-- memory may be wanting after the first k commands: before all of them, or at a regrid
+abbrev pub MayWant : Result PlainScript Refusal → ℕ → Type 0
+MayWant (Ok s) k = (k ≡ 0) ⊎ IsRegridAfter k s.lines
+MayWant (Err refusal) k = k ≡ 0
+
+-- a text that ends where the source failed, or where memory was wanting
+abbrev pub MayEnd : List ℕ → Type 0 → List ℕ → Type 0
+MayEnd bytes Faulty text = (Faulty × (text ≡ read_line)) ⊎ ((k : ℕ) × MayWant (script_in bytes) k × (text ≡ first_texts (script_in bytes) k ++ memory_line))
+
+-- a text that the run would have printed: the plain answer's, or where there is no word what a fault of the source or want of memory ends
+abbrev pub MayPrint : List (List ℕ) → List ℕ → Type 0 → List ℕ → Type 0
+MayPrint words bytes Faulty text = (text ≡ (plain_answer words bytes).text) ⊎ ((words ≡ []) × MayEnd bytes Faulty text)
+
+-- the sink took the first bytes of a text that the run would have printed
+abbrev pub TookPart : List (List ℕ) → List ℕ → Type 0 → Option (List ℕ) → Option (List ℕ) → Type 0
+TookPart words bytes Faulty before after = (text : List ℕ) × MayPrint words bytes Faulty text × TakesPrefix before text after
 
 -- the sink took the texts of the first commands, and then the line that says that memory is wanting
 abbrev pub TookBeforeMemory : List ℕ → Option (List ℕ) → Option (List ℕ) → Type 0
-TookBeforeMemory bytes before after = (k : ℕ) × Takes before (first_texts (script_in bytes) k ++ memory_line) after
+TookBeforeMemory bytes before after = (k : ℕ) × MayWant (script_in bytes) k × Takes before (first_texts (script_in bytes) k ++ memory_line) after
 
 -- R holds at each command of the script's run that is done
 abbrev pub AlongRun : (Mesh → Command → Mesh → Type 0) → Result PlainScript Refusal → Type 0

@@ -16,7 +16,7 @@ use Rattle.amr_program.specs.declared.status.Status.{Status}
 use Rattle.amr_program.specs.declared.status.Status.TheVariants as status
 use Rattle.amr_program.specs.declared.program.TheConstants.{LIMIT}
 use Rattle.amr_program.specs.declared.refusal.Refusal.{Refusal}
-use Rattle.amr_program.specs.Answer.{admitted, answer_of, first_texts, status_of}
+use Rattle.amr_program.specs.Answer.{IsRegridAfter, MayWant, admitted, answer_of, first_texts, status_of}
 use Rattle.amr_program.specs.Lines.{memory_line, read_line, words_line}
 
 -- the text was written, without a fault
@@ -36,7 +36,7 @@ Ended ends text result w = ((result ≡ ends) × Wrote text w) ⊎ ((result ≡ 
 -- how a run of commands stopped, at a line: the command there is refused; the sink failed; or memory was refused at a command
 abbrev pub RunRefused : Option stops.Refusal → Cause → ℕ → Mesh → List Line → Written → Type 0
 RunRefused (Some reason) cause line m lines w = (stop m lines ≡ Some (record { line = line; why = reason })) × Wrote (texts m (done m lines)) w
-RunRefused None causes.OutOfMemory line m lines w = (k : ℕ) × Wrote (texts m (take k (done m lines))) w
+RunRefused None causes.OutOfMemory line m lines w = (k : ℕ) × IsRegridAfter k lines × Wrote (texts m (take k (done m lines))) w
 RunRefused None causes.WriteFault line m lines w = WrotePart (texts m (done m lines)) w
 RunRefused None (causes.Range range) line m lines w = ⊥
 RunRefused None (causes.Courant speeds) line m lines w = ⊥
@@ -70,13 +70,14 @@ pub record Answered (read : Result PlainScript Refusal) (result : Status) (w : W
 pub record Starved (read : Result PlainScript Refusal) (result : Status) (w : Written) : Type 0 where
   pub status_is : result ≡ status.OutOfMemory
   pub commands : ℕ
+  pub wants : MayWant read commands
   pub wrote : Wrote (first_texts read commands ++ memory_line) w
 
 -- the sink failed within the answer's text, or within the line that says that memory is wanting
 pub record Failed (read : Result PlainScript Refusal) (result : Status) (w : Written) : Type 0 where
   pub status_is : result ≡ status.WriteFault
   pub text : List ℕ
-  pub text_is : (text ≡ (answer_of read).text) ⊎ ((k : ℕ) × (text ≡ first_texts read k ++ memory_line))
+  pub text_is : (text ≡ (answer_of read).text) ⊎ ((k : ℕ) × MayWant read k × (text ≡ first_texts read k ++ memory_line))
   pub wrote : WrotePart text w
 
 -- what comes of a script that is run, or is not

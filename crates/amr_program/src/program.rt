@@ -42,8 +42,8 @@ pub fn amr<S: Source, K: Sink, D: Disk>(
     ensures complete { words.now ≡ [] → ¬ Rose (S.faults source.old) (S.faults source.new) → ¬ Rose (K.faults sink.old) (K.faults sink.new) →
         IfSome (S.left source.old) (λ bytes. IsAccepted (read_in bytes) → (result ≡ Status.Done) ⊎ (result ≡ Status.OutOfMemory)) }
 
-    // What was printed where the sink failed, or memory was wanting.
-    ensures part { result ≡ Status.WriteFault → IfSome (S.left source.old) (λ bytes. TookPart (map (λ w. string_bytes w) words.now) bytes (K.taken sink.old) (K.taken sink.new)) }
+    // What was printed where the sink failed, or memory was wanting, which it may be before the first command and at a regrid.
+    ensures part { result ≡ Status.WriteFault → IfSome (S.left source.old) (λ bytes. TookPart (map (λ w. string_bytes w) words.now) bytes (Rose (S.faults source.old) (S.faults source.new)) (K.taken sink.old) (K.taken sink.new)) }
     ensures memory { result ≡ Status.OutOfMemory → IfSome (S.left source.old) (λ bytes. TookBeforeMemory bytes (K.taken sink.old) (K.taken sink.new)) }
 
     // The source at return, and the disk.

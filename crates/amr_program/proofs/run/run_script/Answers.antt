@@ -1,4 +1,4 @@
-use Rattle.std.proofs.Common.{All, Ok, subst, sym, ap, ◌∙◌}
+use Rattle.std.proofs.Common.{All, subst, sym, ap, ◌∙◌}
 use Rattle.mesh_model.specs.Commands.{plain_script}
 use Rattle.amr_engine.specs.Built.{IsBuiltLine}
 use Rattle.amr_engine.specs.Plain.{declared_of, plain}
