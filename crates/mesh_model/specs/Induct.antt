@@ -1,7 +1,7 @@
 -- What induct, curl and uniform make of the face variable.
 --
--- Each of them changes leaf faces by circulations of edge numbers or sets them to one flux by area, so that no leaf cell's net flux
--- changes.
+-- Induct takes circulations of edge numbers from the leaf faces, so each leaf cell keeps its net flux. Curl sets them to circulations, and
+-- uniform to one flux by area, so no leaf cell has a net flux then.
 use Rattle.std.specs.Prelude.{◌-◌, ◌^◌, Bool, ◌||◌, if◌then◌else◌, ℤ, pos, ◌-ℤ◌, ◌*ℤ◌}
 use Rattle.amr_num.specs.declared.FaceAt.{FaceAt}
 use Rattle.amr_num.specs.declared.EdgeAt.{EdgeAt}

@@ -82,8 +82,8 @@ fn moved_twice(
     }
 }
 
-/// The cells round an edge: with b and c the next axes after the edge's, low on both, high on b alone, high
-/// on c alone, high on both. A cell is `None` exactly where it lies outside a side that is not periodic.
+/// The cells round an edge: with b and d the next axes after the edge's, low on both, high on b alone, high
+/// on d alone, high on both. A cell is `None` exactly where it lies outside a side that is not periodic.
 pub fn around_edge(shape: &Shape, e: EdgeAt) -> [Option<CellAt>; 4]
     requires shape { IsShape shape.now }
     requires level { e.level ≤ 10 }

@@ -1,3 +1,5 @@
+//! The names of the variables.
+
 ghost use Rattle.std.specs.Prelude.{◌≡◌, ℕ, ◌<◌, ◌≤◌, List, [], ◌∷◌, ◌++◌, length, map, slice_get, IfOk, IfSome, OnOk, OnErr, Option, Some, None};
 ghost use Rattle.std.specs.Option.{option_copied, option_map};
 ghost use Rattle.mesh_model.specs.VariableNames.{no_names};

@@ -1,3 +1,5 @@
+//! What a script says: its declarations and its commands.
+
 use crate::Shape;
 use crate::names::Names;
 use amr_num::{BlockAt, EdgeAt, FaceAt};
@@ -71,7 +73,7 @@ pub enum Command {
     },
     /// Refines and merges as the marks and the level rule ask, and clears the marks.
     Regrid,
-    /// Moves the cell variable by one step at these speeds on the axes, in units of 2^-20 of a finest cell.
+    /// Moves the cell variable by one step at these speeds on the axes, in units of 2^-20 of a cell of level 0.
     Advect {
         var: u32,
         speeds: [i64; 3],

@@ -17,15 +17,20 @@ pub enum Spot {
 /// above 2^100.
 #[derive(Clone, Copy, Debug, PartialEq, Eq)]
 pub struct RangeStop {
+    /// The variable.
     pub var: Group,
+    /// Where the number would stand.
     pub spot: Spot,
+    /// The number.
     pub value: i128,
 }
 
 /// A leaf that may not be marked: its level, and the limit at which it stands.
 #[derive(Clone, Copy, Debug, PartialEq, Eq)]
 pub struct LevelStop {
+    /// The level of the leaf.
     pub level: u32,
+    /// The finest level where it is marked to be refined, and the coarsest where it is marked to be merged.
     pub limit: u32,
 }
 

@@ -1,3 +1,5 @@
+//! The disk: two areas of bytes.
+
 ghost use Rattle.outside_io.specs.Areas.{Areas, bytes_of, with_bytes, overwritten};
 ghost use Rattle.outside_io.specs.Moved.{Rose};
 ghost use Rattle.std.specs.Prelude.{◌≡◌, ℕ, ◌≤◌, ◌-◌, Option, Some, length, take, drop, IfOk, IfSome, OnOk, OnErr, min};

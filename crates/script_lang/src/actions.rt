@@ -1,4 +1,5 @@
-// The lines that act: their words after the first, from left to right.
+//! The lines that act: their words after the first, from left to right.
+
 ghost use Rattle.std.specs.Prelude.{◌≡◌, ℕ, ◌*◌, ◌^◌, ◌≤◌, ◌⊎◌, length};
 ghost use Rattle.mesh_model.specs.Actions as plain;
 ghost use Rattle.script_lang.specs.Answers.{texts, IsNarrow};

@@ -1,4 +1,5 @@
-// The lines that declare: their words after the first, from left to right.
+//! The lines that declare: their words after the first, from left to right.
+
 ghost use Rattle.std.specs.Prelude.{◌≡◌, ◌∷◌, [], ◌++◌, ◌<◌, ◌≤◌, length, Some, Ok, Err, MatchResult, IfOk, OnOk};
 ghost use Rattle.mesh_model.specs.declared.names.TheConstants.{NAME_LENGTH};
 ghost use Rattle.mesh_model.specs.Coordinates.{is_periodic_kind};

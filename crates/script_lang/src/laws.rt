@@ -1,4 +1,5 @@
-// Laws of the language.
+//! Laws of the language.
+
 ghost use Rattle.std.specs.Prelude.{◌≡◌, ℕ, List, Option, Ok, Err, IfSome, All};
 ghost use Rattle.mesh_model.specs.declared.script.Declared.{Declared};
 ghost use Rattle.mesh_model.specs.Commands.{InLimits, IsLineOf, PlainScript};

@@ -1,4 +1,4 @@
-// The language of scripts.
+//! The language of scripts.
 #![tactic(auto)]
 
 mod actions;

@@ -1,4 +1,5 @@
-// Reading a script, line by line.
+//! Reading a script, line by line.
+
 ghost use Rattle.std.specs.Prelude.{◌≡◌, ℕ, ◌<◌, ◌≤◌, ◌^◌, ◌-◌, true, false, length, IfOk, IfErr, IfSome, Option, Ok, Err, All};
 ghost use Rattle.std.specs.Option.{option_copied};
 ghost use Rattle.mesh_model.specs.Grammar as grammar;

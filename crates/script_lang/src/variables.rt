@@ -1,4 +1,5 @@
-// Variables by their names.
+//! Variables by their names.
+
 ghost use Rattle.std.specs.Prelude.{◌≡◌, ◌≤◌, true, false, Ok, Err, length, IfOk, MatchResult, OnOk};
 ghost use Rattle.std.specs.Option.{option_copied};
 ghost use Rattle.mesh_model.specs.declared.names.TheConstants.{NAME_LENGTH};

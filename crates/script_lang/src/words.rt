@@ -1,4 +1,5 @@
-// The words of a script: lines, words, numbers and names.
+//! The words of a script: lines, words, numbers and names.
+
 ghost use Rattle.std.specs.Prelude.{◌≡◌, ℕ, ◌^◌, ◌≤◌, min, map, true, IfOk, nat_le, pos, neg_ℤ, unsigned_abs, int_le, ◌&&◌, ◌+◌, ◌<◌, length};
 ghost use Rattle.mesh_model.specs.declared.script.Reason.TheVariants.{OutOfRange};
 ghost use Rattle.std.specs.List.{list_all};
