@@ -72,6 +72,37 @@ fn too_many_nodes_are_counted(rt: HostRuntime) {
     );
 }
 
+/// The cell at x of the first row of a level.
+fn in_first_row(level: u32, x: u32) -> CellAt {
+    CellAt {
+        level,
+        x,
+        y: 0,
+        z: 0,
+    }
+}
+
+/// Nodes of two roots of which the first is refined: number, level, x, y, z, parent and kind.
+const ROWS: [(u32, u32, u32, u32, u32, Option<u32>, NodeKind); 5] = [
+    (0, 0, 0, 0, 0, None, NodeKind::AboveLeaf),
+    (1, 1, 0, 0, 0, Some(0), NodeKind::Leaf),
+    (2, 1, 1, 0, 0, Some(0), NodeKind::Leaf),
+    (8, 1, 1, 1, 1, Some(0), NodeKind::Leaf),
+    (9, 0, 1, 0, 0, None, NodeKind::Leaf),
+];
+
+/// The level and x of a cell, and the leaf of that tree in which it lies.
+const CELLS: [(u32, u32, Option<u32>); 8] = [
+    (0, 0, None),
+    (0, 4, Some(9)),
+    (0, 8, None),
+    (1, 3, Some(1)),
+    (1, 4, Some(2)),
+    (1, 8, Some(9)),
+    (2, 9, Some(2)),
+    (40, 0, Some(1)),
+];
+
 #[test]
 fn nodes_are_found(rt: HostRuntime) {
     let alloc = rt.alloc();
@@ -99,15 +130,7 @@ fn nodes_are_found(rt: HostRuntime) {
     ];
     let merged = tree.regrown(alloc, &[false; 10], &up).expect(&rt, "memory");
     assert_eq!(rt; (merged.len(), merged.leaves()), (2, 2));
-    // node, level, x, y, z, parent, kind
-    let rows = [
-        (0, 0, 0, 0, 0, None, NodeKind::AboveLeaf),
-        (1, 1, 0, 0, 0, Some(0), NodeKind::Leaf),
-        (2, 1, 1, 0, 0, Some(0), NodeKind::Leaf),
-        (8, 1, 1, 1, 1, Some(0), NodeKind::Leaf),
-        (9, 0, 1, 0, 0, None, NodeKind::Leaf),
-    ];
-    for (node, level, x, y, z, parent, kind) in rows {
+    for (node, level, x, y, z, parent, kind) in ROWS {
         let b = BlockAt { level, x, y, z };
         if node < tree.len() {
             assert_eq!(rt; tree.at(node), b);
@@ -119,25 +142,8 @@ fn nodes_are_found(rt: HostRuntime) {
     }
     assert_eq!(rt; tree.child(0, 3), Some(4));
     assert_eq!(rt; tree.child(9, 3), None);
-    // level and x of a cell, and the leaf in which it lies
-    let cells = [
-        (0, 0, None),
-        (0, 4, Some(9)),
-        (0, 8, None),
-        (1, 3, Some(1)),
-        (1, 4, Some(2)),
-        (1, 8, Some(9)),
-        (2, 9, Some(2)),
-        (40, 0, Some(1)),
-    ];
-    for (level, x, leaf) in cells {
-        let c = CellAt {
-            level,
-            x,
-            y: 0,
-            z: 0,
-        };
-        assert_eq!(rt; tree.covering(c), leaf);
+    for (level, x, leaf) in CELLS {
+        assert_eq!(rt; tree.covering(in_first_row(level, x)), leaf);
     }
 }
 
