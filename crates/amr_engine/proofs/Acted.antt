@@ -6,20 +6,19 @@ use Rattle.std.proofs.lemmas.List.{get_or_default, map-set}
 use Rattle.std.specs.Prelude.{unsigned_abs}
 use Rattle.amr_num.specs.Numbers.{Within}
 use Rattle.amr_num.specs.declared.CellAt.{CellAt}
-use Rattle.mesh_model.specs.declared.script.Command.{Command}
-use Rattle.mesh_model.specs.declared.script.Command.TheVariants.{Advect, FillAll, FillBox, Regrid}
-use Rattle.mesh_model.specs.declared.script.Declared.{Declared}
-use Rattle.mesh_model.specs.declared.stops.Refusal.{Refusal}
-use Rattle.mesh_model.specs.Advect.{advect}
-use Rattle.mesh_model.specs.Commands.{AreThree, IsBox, IsCellVariable, IsCommandOf, IsLeafNumber}
-use Rattle.mesh_model.specs.Fill.{fill_all, fill_box}
-use Rattle.mesh_model.specs.Plain.{Mesh}
-use Rattle.mesh_model.specs.RangeWalk.{is_above}
-use Rattle.mesh_model.specs.Run.{declared_in, mesh_after, text_of}
-use Rattle.mesh_model.specs.Setting.{three}
-use Rattle.mesh_model.specs.Stops.{keeps_courant, refusal}
-use Rattle.mesh_model.specs.Valid.{InRange, ValidMesh}
-use Rattle.mesh_model.proofs.RunValid.{keeps_validity}
+use Rattle.mesh_model.specs.declared.language.script.Command.{Command}
+use Rattle.mesh_model.specs.declared.language.script.Command.TheVariants.{Advect, FillAll, FillBox, Regrid}
+use Rattle.mesh_model.specs.declared.language.script.Declared.{Declared}
+use Rattle.mesh_model.specs.declared.run.stops.Refusal.{Refusal}
+use Rattle.mesh_model.specs.Fields.Advect.{advect, three}
+use Rattle.mesh_model.specs.Language.Commands.{AreThree, IsBox, IsCellVariable, IsCommandOf, IsLeafNumber}
+use Rattle.mesh_model.specs.Fields.Fill.{fill_all, fill_box}
+use Rattle.mesh_model.specs.Fields.Plain.{Mesh}
+use Rattle.mesh_model.specs.Fields.RangeWalk.{is_above}
+use Rattle.mesh_model.specs.Run.Runs.{declared_in, mesh_after, text_of}
+use Rattle.mesh_model.specs.Run.Stops.{keeps_courant, refusal}
+use Rattle.mesh_model.specs.Fields.Valid.{InRange, ValidMesh}
+use Rattle.mesh_model.proofs.RunLemmas.RunValid.{keeps_validity}
 use Rattle.outside_io.specs.Moved.{Takes}
 use Rattle.outside_io.specs.declared.Failed.{Failed}
 use Rattle.amr_engine.specs.declared.advection.Hindrance.{Hindrance}

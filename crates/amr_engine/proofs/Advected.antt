@@ -4,22 +4,22 @@ use Rattle.std.proofs.lemmas.Bool.{cases_Bool, cases_eq}
 use Rattle.std.proofs.lemmas.Int.{ints}
 use Rattle.std.specs.Option.{option_or, option_map}
 use Rattle.amr_num.specs.declared.CellAt.{CellAt}
-use Rattle.mesh_model.specs.declared.Shape.{Shape}
-use Rattle.mesh_model.specs.declared.script.Command.TheVariants.{Advect}
-use Rattle.mesh_model.specs.declared.script.Declared.{Declared}
-use Rattle.mesh_model.specs.declared.script.Group.TheVariants.{Cell}
-use Rattle.mesh_model.specs.declared.stops.Refusal.TheVariants as refusals
-use Rattle.mesh_model.specs.declared.stops.Spot.TheVariants as spots
-use Rattle.mesh_model.specs.Advect.{advect}
-use Rattle.mesh_model.specs.Plain.{Mesh, is_leaf, on_cells}
-use Rattle.mesh_model.specs.RangeWalk.{cell_above, cells_walked, first_cell_above, first_excess, is_above, out_above, out_excess}
-use Rattle.mesh_model.specs.Setting.{three}
-use Rattle.mesh_model.specs.Start.{start_grid, start_leaves}
-use Rattle.mesh_model.specs.Stops.{keeps_courant, range_of, refusal}
-use Rattle.mesh_model.specs.Totals.{block_sum, sum_over, total}
-use Rattle.mesh_model.specs.Valid.{ValidMesh}
-use Rattle.mesh_model.proofs.AdvectStops.{advect_excess}
-use Rattle.mesh_model.proofs.Conserving.{advect_conserves}
+use Rattle.mesh_model.specs.declared.geometry.Shape.{Shape}
+use Rattle.mesh_model.specs.declared.language.script.Command.TheVariants.{Advect}
+use Rattle.mesh_model.specs.declared.language.script.Declared.{Declared}
+use Rattle.mesh_model.specs.declared.fields.values.Group.TheVariants.{Cell}
+use Rattle.mesh_model.specs.declared.run.stops.Refusal.TheVariants as refusals
+use Rattle.mesh_model.specs.declared.fields.spot.Spot.TheVariants as spots
+use Rattle.mesh_model.specs.Fields.Advect.{advect, three}
+use Rattle.mesh_model.specs.Fields.Plain.{Mesh, on_cells}
+use Rattle.mesh_model.specs.Tree.Kinds.{is_leaf}
+use Rattle.mesh_model.specs.Fields.RangeWalk.{cell_above, cells_walked, first_cell_above, first_excess, is_above, out_above, out_excess}
+use Rattle.mesh_model.specs.Tree.Start.{start_grid, start_leaves}
+use Rattle.mesh_model.specs.Run.Stops.{keeps_courant, range_of, refusal}
+use Rattle.mesh_model.specs.Fields.Totals.{block_sum, sum_over, total}
+use Rattle.mesh_model.specs.Fields.Valid.{ValidMesh}
+use Rattle.mesh_model.proofs.FieldLemmas.AdvectStops.{advect_excess}
+use Rattle.mesh_model.proofs.FieldLemmas.Conserving.{advect_conserves}
 use Rattle.amr_engine.specs.declared.advection.Above.{Above}
 use Rattle.amr_engine.specs.Contents.{IsUniform, content_in}
 use Rattle.amr_engine.specs.UniformMesh.{uniform_mesh}

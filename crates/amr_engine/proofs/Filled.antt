@@ -4,11 +4,13 @@ use Rattle.std.proofs.Math.ListN.{length-set}
 use Rattle.std.proofs.lemmas.Bool.{cases_Bool, eqb-true}
 use Rattle.std.specs.Prelude.{◌==◌, if◌then◌else◌}
 use Rattle.amr_num.specs.declared.CellAt.{CellAt}
-use Rattle.mesh_model.specs.declared.Shape.{Shape}
-use Rattle.mesh_model.specs.declared.script.Declared.{Declared}
-use Rattle.mesh_model.specs.Fill.{with_cells}
-use Rattle.mesh_model.specs.Plain.{is_leaf, on_cells}
-use Rattle.mesh_model.specs.Start.{start_grid, start_mesh}
+use Rattle.mesh_model.specs.declared.geometry.Shape.{Shape}
+use Rattle.mesh_model.specs.declared.language.script.Declared.{Declared}
+use Rattle.mesh_model.specs.Fields.Fill.{with_cells}
+use Rattle.mesh_model.specs.Tree.Kinds.{is_leaf}
+use Rattle.mesh_model.specs.Fields.Plain.{on_cells}
+use Rattle.mesh_model.specs.Tree.Start.{start_grid}
+use Rattle.mesh_model.specs.Fields.Start.{start_mesh}
 use Rattle.amr_engine.specs.Contents.{IsFilledBelow, IsRoots, IsUniform, cell_at, cell_count, content_in, place}
 use Rattle.amr_engine.specs.UniformMesh.{uniform_mesh}
 use Rattle.amr_engine.proofs.Uniform.{cell_again, leaf_is_cell, place_inside}

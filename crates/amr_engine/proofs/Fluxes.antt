@@ -8,16 +8,15 @@ use Rattle.amr_num.specs.declared.CellAt.{CellAt}
 use Rattle.amr_num.specs.declared.FaceAt.{FaceAt}
 use Rattle.amr_num.specs.declared.SideKind.{SideKind}
 use Rattle.amr_num.specs.declared.SideKind.TheVariants.{Periodic, Outflow, Closed}
-use Rattle.mesh_model.specs.declared.Shape.{Shape}
-use Rattle.mesh_model.specs.Advect.{above_or, below_or, blown_from, donor, is_closed_at, is_closed_kind, leaf_flux, speed}
-use Rattle.mesh_model.specs.Coordinates.{after, extent, face_of, high_cell, is_periodic, is_periodic_kind, low_cell, on, side_index, side_kind, with, wrapped}
-use Rattle.mesh_model.specs.Limits.{IsShape}
-use Rattle.mesh_model.specs.Plain.{block_of, holds, is_split, is_split_face}
-use Rattle.mesh_model.specs.Setting.{three}
-use Rattle.mesh_model.specs.Start.{start_grid}
-use Rattle.mesh_model.specs.Views.{cell_view, face_down, view_at}
-use Rattle.mesh_model.proofs.Tests.{refuted}
-use Rattle.mesh_model.proofs.Tiling.{split_says}
+use Rattle.mesh_model.specs.declared.geometry.Shape.{Shape}
+use Rattle.mesh_model.specs.Fields.Advect.{above_or, below_or, blown_from, donor, is_closed_at, is_closed_kind, leaf_flux, speed, three}
+use Rattle.mesh_model.specs.Geometry.Coordinates.{after, extent, face_of, high_cell, is_periodic, is_periodic_kind, low_cell, on, side_index, side_kind, with, wrapped}
+use Rattle.mesh_model.specs.Geometry.Limits.{IsShape}
+use Rattle.mesh_model.specs.Tree.Kinds.{block_of, holds, is_split, is_split_face}
+use Rattle.mesh_model.specs.Tree.Start.{start_grid}
+use Rattle.mesh_model.specs.Fields.Views.{cell_view, face_down, view_at}
+use Rattle.mesh_model.proofs.TreeLemmas.Tests.{refuted}
+use Rattle.mesh_model.proofs.TreeLemmas.Tiling.{split_says}
 use Rattle.step_advect.specs.Flux.{donor_of, flux_between}
 use Rattle.amr_engine.specs.Contents.{IsCell, IsRoots, content_in}
 use Rattle.amr_engine.specs.Stepping.{field, flux_in, net_in, stepped}

@@ -1,16 +1,16 @@
 -- What an engine does to its contents is what it does to its mesh.
 use Rattle.std.proofs.Common.{◌≡◌, ℕ, Bool, ◌<◌, List, Option, None, Some, IsSome, Result, length, refl, sym, ap, ap₂, subst, ◌∙◌, arith}
 use Rattle.amr_num.specs.declared.BlockAt.{BlockAt}
-use Rattle.mesh_model.specs.declared.script.Command.{Command}
-use Rattle.mesh_model.specs.declared.script.Group.{Group}
-use Rattle.mesh_model.specs.declared.script.Group.TheVariants.{Cell, Face, Edge}
-use Rattle.mesh_model.specs.Commands.{IsCommandOf, IsGroup}
-use Rattle.mesh_model.specs.Plain.{Mesh}
-use Rattle.mesh_model.specs.Run.{declared_in, mesh_after}
-use Rattle.mesh_model.specs.Setting.{with_marks}
-use Rattle.mesh_model.specs.Stops.{refusal}
-use Rattle.mesh_model.specs.Texts.{total_text, variable_text}
-use Rattle.mesh_model.specs.VariableNames.{VariableNames}
+use Rattle.mesh_model.specs.declared.language.script.Command.{Command}
+use Rattle.mesh_model.specs.declared.fields.values.Group.{Group}
+use Rattle.mesh_model.specs.declared.fields.values.Group.TheVariants.{Cell, Face, Edge}
+use Rattle.mesh_model.specs.Language.Commands.{IsCommandOf, IsGroup}
+use Rattle.mesh_model.specs.Fields.Plain.{Mesh}
+use Rattle.mesh_model.specs.Run.Runs.{declared_in, mesh_after}
+use Rattle.mesh_model.specs.Fields.Setting.{with_marks}
+use Rattle.mesh_model.specs.Run.Stops.{refusal}
+use Rattle.mesh_model.specs.Run.Texts.{total_text, variable_text}
+use Rattle.mesh_model.specs.Fields.VariableNames.{VariableNames}
 use Rattle.amr_engine.specs.declared.engine.Cause.{Cause}
 use Rattle.amr_engine.specs.declared.engine.Engine.{Engine}
 use Rattle.amr_engine.specs.EngineMesh.{engine_mesh}

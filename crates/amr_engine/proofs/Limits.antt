@@ -4,14 +4,15 @@ use Rattle.std.proofs.Math.ListN.{get_or-eq_default}
 use Rattle.std.proofs.lemmas.List.{get_or-replicate, length-replicate}
 use Rattle.std.proofs.lemmas.Bool.{cases_Bool, or_cases, or_left, or_right}
 use Rattle.amr_num.specs.declared.CellAt.{CellAt}
-use Rattle.mesh_model.specs.declared.Shape.{Shape}
-use Rattle.mesh_model.specs.declared.script.Declared.{Declared}
-use Rattle.mesh_model.specs.Limits.{IsShape}
-use Rattle.mesh_model.specs.Plain.{is_leaf, on_cells}
-use Rattle.mesh_model.specs.Start.{start_grid}
-use Rattle.mesh_model.specs.Valid.{InRange, ValidMesh}
-use Rattle.mesh_model.proofs.LeafSums.{off_leaf}
-use Rattle.mesh_model.proofs.Start.{start_mesh_valid}
+use Rattle.mesh_model.specs.declared.geometry.Shape.{Shape}
+use Rattle.mesh_model.specs.declared.language.script.Declared.{Declared}
+use Rattle.mesh_model.specs.Geometry.Limits.{IsShape}
+use Rattle.mesh_model.specs.Tree.Kinds.{is_leaf}
+use Rattle.mesh_model.specs.Fields.Plain.{on_cells}
+use Rattle.mesh_model.specs.Tree.Start.{start_grid}
+use Rattle.mesh_model.specs.Fields.Valid.{InRange, ValidMesh}
+use Rattle.mesh_model.proofs.FieldLemmas.LeafSums.{off_leaf}
+use Rattle.mesh_model.proofs.FieldLemmas.Start.{start_mesh_valid}
 use Rattle.amr_engine.specs.Contents.{IsRoots, IsUniform, KeepsLimits, cell_count, content_in, place}
 use Rattle.amr_engine.specs.UniformMesh.{uniform_mesh}
 use Rattle.amr_engine.proofs.Filled.{zero_mesh}

@@ -2,17 +2,19 @@
 use Rattle.std.proofs.Common.{◌≡◌, ℕ, ◌<◌, ◌≤◌, Bool, true, false, ◌||◌, nat_lt, nat_le, List, length, Some, None, refl, sym, ap, ap₂, ◌∙◌, arith, lt-ltb}
 use Rattle.std.proofs.lemmas.Bool.{le-ltb, lt-leb, or_left}
 use Rattle.amr_num.specs.declared.BlockAt.{BlockAt}
-use Rattle.mesh_model.specs.declared.script.Command.TheVariants.{MarkDerefine, MarkRefine}
-use Rattle.mesh_model.specs.declared.stops.LevelStop.{LevelStop}
-use Rattle.mesh_model.specs.declared.stops.Refusal.TheVariants as refusals
-use Rattle.mesh_model.specs.Limits.{most_nodes}
-use Rattle.mesh_model.specs.Order.{nodes}
-use Rattle.mesh_model.specs.Plain.{Grid, Mesh, is_leaf_block}
-use Rattle.mesh_model.specs.Regrid.{new_grid, regrown}
-use Rattle.mesh_model.specs.Run.{mesh_after}
-use Rattle.mesh_model.specs.Setting.{is_same_block, mark_derefine, mark_refine}
-use Rattle.mesh_model.specs.Stops.{nodes_of, refusal}
-use Rattle.mesh_model.proofs.Tiling.{leaf_says, leaf_shows}
+use Rattle.mesh_model.specs.declared.language.script.Command.TheVariants.{MarkDerefine, MarkRefine}
+use Rattle.mesh_model.specs.declared.run.stops.LevelStop.{LevelStop}
+use Rattle.mesh_model.specs.declared.run.stops.Refusal.TheVariants as refusals
+use Rattle.mesh_model.specs.Geometry.Limits.{most_nodes}
+use Rattle.mesh_model.specs.Tree.Order.{nodes}
+use Rattle.mesh_model.specs.Tree.Kinds.{Grid, is_leaf_block}
+use Rattle.mesh_model.specs.Fields.Plain.{Mesh}
+use Rattle.mesh_model.specs.Tree.Regrown.{new_grid, regrown}
+use Rattle.mesh_model.specs.Run.Runs.{mesh_after}
+use Rattle.mesh_model.specs.Geometry.Blocks.{is_same_block}
+use Rattle.mesh_model.specs.Fields.Setting.{mark_derefine, mark_refine}
+use Rattle.mesh_model.specs.Run.Stops.{nodes_of, refusal}
+use Rattle.mesh_model.proofs.TreeLemmas.Tiling.{leaf_says, leaf_shows}
 use Rattle.block_tree.specs.declared.marks.Marks.{Marks}
 use Rattle.block_tree.specs.declared.tree.Tree.{Tree}
 use Rattle.block_tree.specs.GridOf.{grid_of}

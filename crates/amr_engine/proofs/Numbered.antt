@@ -8,11 +8,11 @@ use Rattle.std.specs.Prelude.{flat_map}
 use Rattle.amr_num.specs.declared.BlockAt.{BlockAt}
 use Rattle.block_tree.specs.Numbered.{IsNode, block_at, block_in}
 use Rattle.block_tree.proofs.Members.{in_at}
-use Rattle.mesh_model.specs.declared.Shape.{Shape}
-use Rattle.mesh_model.specs.Order.{IsIn, begun_at, nodes}
-use Rattle.mesh_model.specs.Plain.{Grid}
-use Rattle.mesh_model.specs.Start.{start_grid, start_leaves}
-use Rattle.mesh_model.specs.Totals.{sum_over}
+use Rattle.mesh_model.specs.declared.geometry.Shape.{Shape}
+use Rattle.mesh_model.specs.Tree.Order.{IsIn, begun_at, nodes}
+use Rattle.mesh_model.specs.Tree.Kinds.{Grid}
+use Rattle.mesh_model.specs.Tree.Start.{start_grid, start_leaves}
+use Rattle.mesh_model.specs.Fields.Totals.{sum_over}
 use Rattle.amr_engine.specs.Contents.{IsBlock}
 use Rattle.amr_engine.proofs.Ranges.{flat_of_map}
 use Rattle.amr_engine.proofs.Uniform.{leaf_is_block}

@@ -4,9 +4,9 @@ use Rattle.std.proofs.lemmas.Nat.{mul-le}
 use Rattle.amr_num.specs.declared.Axis.{Axis}
 use Rattle.amr_num.specs.declared.Axis.TheVariants.{X, Y, Z}
 use Rattle.amr_num.specs.declared.BlockAt.{BlockAt}
-use Rattle.mesh_model.specs.declared.Shape.{Shape}
-use Rattle.mesh_model.specs.Coordinates.{extent, roots}
-use Rattle.mesh_model.specs.Texts.{in_block}
+use Rattle.mesh_model.specs.declared.geometry.Shape.{Shape}
+use Rattle.mesh_model.specs.Geometry.Coordinates.{extent, roots}
+use Rattle.mesh_model.specs.Geometry.Places.{in_block}
 use Rattle.amr_engine.specs.Contents.{IsBlock, IsCell, IsRoots, cell_count, place}
 use Rattle.amr_engine.proofs.Uniform.{cell_of_block, place_inside}
 use Rattle.amr_num.specs.declared.CellAt.{CellAt}

@@ -1,8 +1,7 @@
 -- Parts of a list by places, and sums over places.
-use Rattle.std.proofs.Common.{Bool, true, false, ◌≢◌, set, below_more, get_or-set_other, get_or-set_same, ◌≡◌, ℕ, zero, suc, ◌+◌, ◌<◌, ◌≤◌, List, [], ◌∷◌, ◌++◌, length, get_or, take, drop, map, refl, sym, ap, ap₂, ◌∙◌, arith, ℤ, pos}
+use Rattle.std.proofs.Common.{Bool, true, false, ◌≢◌, set, below_more, get_or-set_other, get_or-set_same, ◌≡◌, ℕ, zero, suc, ◌+◌, ◌<◌, ◌≤◌, List, [], ◌∷◌, ◌++◌, length, get_or, take, drop, map, refl, sym, ap, ap₂, ◌∙◌, arith, ℤ, pos, length-drop}
 use Rattle.std.proofs.Math.Seq.{take-suc}
 use Rattle.std.proofs.lemmas.List.{get_or-drop}
-use Rattle.std.proofs.Common.{length-drop}
 use Rattle.std.proofs.lemmas.List.FromFn.{get_or-map-range_with_len, length-map-range_with_len, map-range_with_len_more}
 use Rattle.std.proofs.Math.ListN.{length-set}
 use Rattle.amr_engine.specs.Contents.{IsFilledBelow}

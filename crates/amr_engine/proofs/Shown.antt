@@ -2,14 +2,16 @@
 use Rattle.std.proofs.Common.{◌≡◌, ℕ, ◌<◌, ◌+ℤ◌, List, [], ◌∷◌, get_or, ℤ, refl, sym, ap₂, ◌∙◌, arith, inl, inr}
 use Rattle.amr_num.proofs.Parts.{sum_below_same}
 use Rattle.amr_num.specs.declared.BlockAt.{BlockAt}
-use Rattle.mesh_model.specs.declared.Shape.{Shape}
-use Rattle.mesh_model.specs.declared.script.Declared.{Declared}
-use Rattle.mesh_model.specs.declared.script.Group.TheVariants.{Cell}
-use Rattle.mesh_model.specs.Order.{IsIn}
-use Rattle.mesh_model.specs.Plain.{Grid, on_cells}
-use Rattle.mesh_model.specs.Start.{start_grid, start_leaves}
-use Rattle.mesh_model.specs.Texts.{group_name, in_block}
-use Rattle.mesh_model.specs.Totals.{block_sum, box_sum, sum_over, total}
+use Rattle.mesh_model.specs.declared.geometry.Shape.{Shape}
+use Rattle.mesh_model.specs.declared.language.script.Declared.{Declared}
+use Rattle.mesh_model.specs.declared.fields.values.Group.TheVariants.{Cell}
+use Rattle.mesh_model.specs.Tree.Order.{IsIn}
+use Rattle.mesh_model.specs.Tree.Kinds.{Grid}
+use Rattle.mesh_model.specs.Fields.Plain.{on_cells}
+use Rattle.mesh_model.specs.Tree.Start.{start_grid, start_leaves}
+use Rattle.mesh_model.specs.Run.Texts.{group_name}
+use Rattle.mesh_model.specs.Geometry.Places.{in_block}
+use Rattle.mesh_model.specs.Fields.Totals.{block_sum, box_sum, sum_over, total}
 use Rattle.amr_engine.specs.Contents.{IsBlock, IsRoots, content_in}
 use Rattle.amr_engine.specs.Values.{number_in}
 use Rattle.amr_report.specs.Values.{HasViews}

@@ -5,7 +5,7 @@ use Rattle.std.specs.Prelude.{flat_map}
 use Rattle.std.specs.List.{range_with_len}
 use Rattle.std.specs.Option.{option_or}
 use Rattle.amr_num.specs.declared.CellAt.{CellAt}
-use Rattle.mesh_model.specs.declared.Shape.{Shape}
+use Rattle.mesh_model.specs.declared.geometry.Shape.{Shape}
 use Rattle.amr_engine.specs.declared.advection.Above.{Above}
 use Rattle.amr_engine.specs.Contents.{IsCell}
 use Rattle.amr_engine.specs.Stepping.{FindsExcess, Holds, IsAmong, Steps, is_excess}

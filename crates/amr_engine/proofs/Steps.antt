@@ -7,7 +7,7 @@ use Rattle.std.specs.Prelude.{unsigned_abs}
 use Rattle.amr_num.specs.Numbers.{Within}
 use Rattle.amr_num.specs.declared.CellAt.{CellAt}
 use Rattle.amr_num.proofs.Machine.{kept}
-use Rattle.mesh_model.specs.declared.Shape.{Shape}
+use Rattle.mesh_model.specs.declared.geometry.Shape.{Shape}
 use Rattle.amr_engine.specs.Contents.{IsCell, IsRoots, cell_at, cell_count, content_in, place}
 use Rattle.amr_engine.specs.Stepping.{Steps, is_excess, net_in, stepped}
 use Rattle.amr_engine.proofs.Fluxes.{stepped_is}

@@ -4,18 +4,18 @@ use Rattle.std.proofs.Math.Nat.{add-mul-div_left, add-mul-mod_self_left, div-eq_
 use Rattle.amr_num.specs.declared.Axis.TheVariants.{X, Y, Z}
 use Rattle.amr_num.specs.declared.BlockAt.{BlockAt}
 use Rattle.amr_num.specs.declared.CellAt.{CellAt}
-use Rattle.mesh_model.specs.declared.Shape.{Shape}
-use Rattle.mesh_model.specs.Order.{IsIn}
-use Rattle.mesh_model.specs.Coordinates.{extent, is_periodic_kind, side_index, side_kind}
-use Rattle.mesh_model.specs.Plain.{block_of, is_leaf}
+use Rattle.mesh_model.specs.declared.geometry.Shape.{Shape}
+use Rattle.mesh_model.specs.Tree.Order.{IsIn}
+use Rattle.mesh_model.specs.Geometry.Coordinates.{extent, is_periodic_kind, side_index, side_kind}
+use Rattle.mesh_model.specs.Tree.Kinds.{block_of, is_leaf}
 use Rattle.amr_num.specs.declared.Axis.{Axis}
 use Rattle.amr_num.specs.declared.SideKind.{SideKind}
 use Rattle.amr_num.specs.declared.SideKind.TheVariants.{Closed}
-use Rattle.mesh_model.specs.Limits.{IsShape}
-use Rattle.mesh_model.specs.Start.{start_grid, start_leaves}
-use Rattle.mesh_model.specs.Texts.{in_block}
-use Rattle.mesh_model.proofs.Roots.{start_every, start_root}
-use Rattle.mesh_model.proofs.Tiling.{leaf_says, leaf_shows}
+use Rattle.mesh_model.specs.Geometry.Limits.{IsShape}
+use Rattle.mesh_model.specs.Tree.Start.{start_grid, start_leaves}
+use Rattle.mesh_model.specs.Geometry.Places.{in_block}
+use Rattle.mesh_model.proofs.TreeLemmas.Roots.{start_every, start_root}
+use Rattle.mesh_model.proofs.TreeLemmas.Tiling.{leaf_says, leaf_shows}
 use Rattle.amr_engine.specs.Contents.{IsBlock, IsCell, IsRoots, cell_at, cell_count, place}
 
 -- ---- the roots

@@ -8,12 +8,12 @@ use Rattle.std.specs.Prelude.{Some, if◌then◌else◌, slice_get}
 use Rattle.std.specs.Vec.{with_items}
 use Rattle.amr_num.specs.declared.Axis.TheVariants.{X, Y, Z}
 use Rattle.amr_num.specs.declared.CellAt.{CellAt}
-use Rattle.mesh_model.specs.declared.Shape.{Shape}
-use Rattle.mesh_model.specs.declared.script.Declared.{Declared}
-use Rattle.mesh_model.specs.Commands.{IsBox}
-use Rattle.mesh_model.specs.Fill.{with_cells}
-use Rattle.mesh_model.specs.Plain.{on_cells}
-use Rattle.mesh_model.specs.Start.{start_grid}
+use Rattle.mesh_model.specs.declared.geometry.Shape.{Shape}
+use Rattle.mesh_model.specs.declared.language.script.Declared.{Declared}
+use Rattle.mesh_model.specs.Language.Commands.{IsBox}
+use Rattle.mesh_model.specs.Fields.Fill.{with_cells}
+use Rattle.mesh_model.specs.Fields.Plain.{on_cells}
+use Rattle.mesh_model.specs.Tree.Start.{start_grid}
 use Rattle.amr_engine.specs.Contents.{AllAtMost, IsFilledBelow, IsRoots, IsUniform, cell_at, cell_count}
 use Rattle.amr_engine.specs.UniformMesh.{uniform_mesh}
 use Rattle.amr_engine.proofs.Filled.{filled_mesh, still_uniform}

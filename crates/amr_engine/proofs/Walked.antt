@@ -4,13 +4,13 @@ use Rattle.std.proofs.Math.Nat.{div-add-mod, mod-lt}
 use Rattle.std.specs.List.{range_with_len}
 use Rattle.std.specs.Prelude.{flat_map}
 use Rattle.amr_num.specs.declared.CellAt.{CellAt}
-use Rattle.mesh_model.specs.declared.Shape.{Shape}
-use Rattle.mesh_model.specs.RangeWalk.{block_cells, cells_walked}
+use Rattle.mesh_model.specs.declared.geometry.Shape.{Shape}
+use Rattle.mesh_model.specs.Geometry.Places.{block_cells, in_block}
+use Rattle.mesh_model.specs.Fields.RangeWalk.{cells_walked}
 use Rattle.amr_num.specs.declared.BlockAt.{BlockAt}
-use Rattle.mesh_model.specs.Order.{IsIn}
-use Rattle.mesh_model.specs.Plain.{block_of}
-use Rattle.mesh_model.specs.Start.{start_grid, start_leaves}
-use Rattle.mesh_model.specs.Texts.{in_block}
+use Rattle.mesh_model.specs.Tree.Order.{IsIn}
+use Rattle.mesh_model.specs.Tree.Kinds.{block_of}
+use Rattle.mesh_model.specs.Tree.Start.{start_grid, start_leaves}
 use Rattle.amr_engine.specs.Contents.{IsCell, IsRoots}
 use Rattle.amr_engine.specs.Stepping.{IsAmong}
 use Rattle.amr_engine.proofs.Ranges.{map_singles}

@@ -8,23 +8,27 @@ use Rattle.amr_num.specs.declared.BlockAt.{BlockAt}
 use Rattle.amr_num.specs.declared.CellAt.{CellAt}
 use Rattle.amr_num.specs.declared.FaceAt.{FaceAt}
 use Rattle.amr_num.specs.declared.EdgeAt.{EdgeAt}
-use Rattle.mesh_model.specs.declared.script.Command.{Command}
-use Rattle.mesh_model.specs.declared.script.Command.TheVariants.{MarkDerefine, MarkRefine, Regrid}
-use Rattle.mesh_model.specs.declared.script.Declared.{Declared}
-use Rattle.mesh_model.specs.declared.stops.RangeStop.{RangeStop}
-use Rattle.mesh_model.specs.declared.stops.Refusal.TheVariants as refusals
-use Rattle.mesh_model.specs.Limits.{most_nodes}
-use Rattle.mesh_model.specs.Order.{nodes}
-use Rattle.mesh_model.specs.Plain.{Grid, Mesh, is_canonical, is_canonical_edge, is_leaf, is_leaf_edge, is_leaf_face, on_cells}
-use Rattle.mesh_model.specs.RangeWalk.{cell_above, cells_walked, edge_above, edges_walked, face_above, faces_walked, first_cell_above, first_excess, first_of_all, is_above, out_above, variables}
-use Rattle.mesh_model.specs.Regrid.{new_grid, regrid}
-use Rattle.mesh_model.specs.Run.{mesh_after}
-use Rattle.mesh_model.specs.Setting.{mark_derefine, mark_refine, with_marks}
-use Rattle.mesh_model.specs.Start.{start_grid}
-use Rattle.mesh_model.specs.Stops.{nodes_of, range_of, refusal}
-use Rattle.mesh_model.specs.Valid.{FewNodes, InRange, ValidMesh}
-use Rattle.mesh_model.proofs.LeafSums.{off_leaf}
-use Rattle.mesh_model.proofs.ZeroViews.{no_cell_views, no_edge_views, no_face_views}
+use Rattle.mesh_model.specs.declared.language.script.Command.{Command}
+use Rattle.mesh_model.specs.declared.language.script.Command.TheVariants.{MarkDerefine, MarkRefine, Regrid}
+use Rattle.mesh_model.specs.declared.language.script.Declared.{Declared}
+use Rattle.mesh_model.specs.declared.fields.spot.RangeStop.{RangeStop}
+use Rattle.mesh_model.specs.declared.run.stops.Refusal.TheVariants as refusals
+use Rattle.mesh_model.specs.Geometry.Limits.{most_nodes}
+use Rattle.mesh_model.specs.Tree.Order.{nodes}
+use Rattle.mesh_model.specs.Tree.Kinds.{Grid, is_leaf, is_leaf_edge, is_leaf_face}
+use Rattle.mesh_model.specs.Fields.Plain.{Mesh, on_cells}
+use Rattle.mesh_model.specs.Geometry.Canonical.{is_canonical, is_canonical_edge}
+use Rattle.mesh_model.specs.Fields.RangeWalk.{cell_above, cells_walked, edge_above, edges_walked, face_above, faces_walked, first_cell_above, first_excess, first_of_all, is_above, out_above, variables}
+use Rattle.mesh_model.specs.Tree.Regrown.{new_grid}
+use Rattle.mesh_model.specs.Fields.Regrid.{regrid}
+use Rattle.mesh_model.specs.Run.Runs.{mesh_after}
+use Rattle.mesh_model.specs.Fields.Setting.{mark_derefine, mark_refine, with_marks}
+use Rattle.mesh_model.specs.Tree.Start.{start_grid}
+use Rattle.mesh_model.specs.Run.Stops.{nodes_of, range_of, refusal}
+use Rattle.mesh_model.specs.Tree.ValidGrid.{FewNodes}
+use Rattle.mesh_model.specs.Fields.Valid.{InRange, ValidMesh}
+use Rattle.mesh_model.proofs.FieldLemmas.LeafSums.{off_leaf}
+use Rattle.mesh_model.proofs.FieldLemmas.ZeroViews.{no_cell_views, no_edge_views, no_face_views}
 use Rattle.block_tree.specs.Marked.{derefine_of, refine_of}
 use Rattle.block_tree.proofs.Facts.{known}
 use Rattle.amr_engine.specs.declared.engine.Cause.{Cause}

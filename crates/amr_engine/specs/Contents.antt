@@ -4,10 +4,10 @@ use Rattle.amr_num.specs.declared.Axis.{Axis}
 use Rattle.amr_num.specs.declared.Axis.TheVariants.{X, Y, Z}
 use Rattle.amr_num.specs.declared.BlockAt.{BlockAt}
 use Rattle.amr_num.specs.declared.CellAt.{CellAt}
-use Rattle.mesh_model.specs.declared.Shape.{Shape}
-use Rattle.mesh_model.specs.declared.script.Declared.{Declared}
-use Rattle.mesh_model.specs.Coordinates.{extent, roots, is_periodic_kind, side_index, side_kind}
-use Rattle.mesh_model.specs.Texts.{in_block, places}
+use Rattle.mesh_model.specs.declared.geometry.Shape.{Shape}
+use Rattle.mesh_model.specs.declared.language.script.Declared.{Declared}
+use Rattle.mesh_model.specs.Geometry.Coordinates.{extent, roots, is_periodic_kind, side_index, side_kind}
+use Rattle.mesh_model.specs.Geometry.Places.{in_block, places}
 
 -- how many cells of level 0 there are
 abbrev pub cell_count : Shape → ℕ

@@ -1,8 +1,9 @@
 -- The plain mesh by a grid, lists of contents on level 0 and marks.
 use Rattle.std.specs.Prelude.{List, [], Bool, ℤ, pos, slice_index_or}
 use Rattle.amr_num.specs.declared.BlockAt.{BlockAt}
-use Rattle.mesh_model.specs.declared.script.Declared.{Declared}
-use Rattle.mesh_model.specs.Plain.{Grid, Mesh, on_cells}
+use Rattle.mesh_model.specs.declared.language.script.Declared.{Declared}
+use Rattle.mesh_model.specs.Tree.Kinds.{Grid}
+use Rattle.mesh_model.specs.Fields.Plain.{Mesh, on_cells}
 use Rattle.amr_engine.specs.Contents.{content_in}
 
 -- a mesh with this grid and these marks, with these contents and with what has flowed out of each variable

@@ -1,13 +1,14 @@
 -- What marks and regrid make of the tree of a mesh.
 use Rattle.std.specs.Prelude.{◌≡◌, false, Some, None, Result, Ok, Err}
 use Rattle.amr_num.specs.declared.BlockAt.{BlockAt}
-use Rattle.mesh_model.specs.declared.script.Command.{Command}
-use Rattle.mesh_model.specs.declared.stops.Refusal.TheVariants as refusals
-use Rattle.mesh_model.specs.Plain.{Grid, Mesh}
-use Rattle.mesh_model.specs.Regrid.{new_grid}
-use Rattle.mesh_model.specs.Run.{mesh_after}
-use Rattle.mesh_model.specs.Stops.{nodes_of, refusal}
-use Rattle.mesh_model.specs.Valid.{FewNodes}
+use Rattle.mesh_model.specs.declared.language.script.Command.{Command}
+use Rattle.mesh_model.specs.declared.run.stops.Refusal.TheVariants as refusals
+use Rattle.mesh_model.specs.Tree.Kinds.{Grid}
+use Rattle.mesh_model.specs.Fields.Plain.{Mesh}
+use Rattle.mesh_model.specs.Tree.Regrown.{new_grid}
+use Rattle.mesh_model.specs.Run.Runs.{mesh_after}
+use Rattle.mesh_model.specs.Run.Stops.{nodes_of, refusal}
+use Rattle.mesh_model.specs.Tree.ValidGrid.{FewNodes}
 use Rattle.block_tree.specs.GridOf.{grid_of}
 use Rattle.refine_marks.specs.Planned.{HasMarks}
 use Rattle.amr_engine.specs.declared.engine.Cause.{Cause}

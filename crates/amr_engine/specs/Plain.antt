@@ -4,8 +4,9 @@ use Rattle.amr_num.specs.declared.BlockAt.{BlockAt}
 use Rattle.block_tree.specs.GridOf.{grid_of}
 use Rattle.block_tree.specs.Marked.{derefine_of, refine_of}
 use Rattle.amr_engine.specs.declared.engine.Engine.{Engine}
-use Rattle.mesh_model.specs.declared.script.Declared.{Declared}
-use Rattle.mesh_model.specs.Plain.{Grid, Mesh}
+use Rattle.mesh_model.specs.declared.language.script.Declared.{Declared}
+use Rattle.mesh_model.specs.Tree.Kinds.{Grid}
+use Rattle.mesh_model.specs.Fields.Plain.{Mesh}
 use Rattle.amr_engine.specs.EngineMesh.{engine_mesh}
 use Rattle.amr_engine.specs.UniformMesh.{uniform_mesh}
 

@@ -3,17 +3,16 @@ use Rattle.std.specs.Prelude.{◌≡◌, ◌⊎◌, ◌^◌, Bool, Some, None, L
 use Rattle.amr_num.specs.Numbers.{Within}
 use Rattle.amr_num.specs.declared.CellAt.{CellAt}
 use Rattle.amr_num.specs.declared.FaceAt.{FaceAt}
-use Rattle.mesh_model.specs.declared.Shape.{Shape}
-use Rattle.mesh_model.specs.Advect.{advected, flux}
-use Rattle.mesh_model.specs.Circulation.{net_flux}
-use Rattle.mesh_model.specs.Commands.{AreThree}
-use Rattle.mesh_model.specs.Limits.{IsShape}
-use Rattle.mesh_model.specs.Plain.{on_cells}
-use Rattle.mesh_model.specs.RangeWalk.{cells_walked, is_above}
-use Rattle.mesh_model.specs.Setting.{three}
-use Rattle.mesh_model.specs.Start.{start_grid, start_leaves}
-use Rattle.mesh_model.specs.Stops.{keeps_courant}
-use Rattle.mesh_model.specs.Totals.{block_sum, sum_over}
+use Rattle.mesh_model.specs.declared.geometry.Shape.{Shape}
+use Rattle.mesh_model.specs.Fields.Advect.{advected, flux, three}
+use Rattle.mesh_model.specs.Fields.Circulation.{net_flux}
+use Rattle.mesh_model.specs.Language.Commands.{AreThree}
+use Rattle.mesh_model.specs.Geometry.Limits.{IsShape}
+use Rattle.mesh_model.specs.Fields.Plain.{on_cells}
+use Rattle.mesh_model.specs.Fields.RangeWalk.{cells_walked, is_above}
+use Rattle.mesh_model.specs.Tree.Start.{start_grid, start_leaves}
+use Rattle.mesh_model.specs.Run.Stops.{keeps_courant}
+use Rattle.mesh_model.specs.Fields.Totals.{block_sum, sum_over}
 use Rattle.amr_engine.specs.declared.advection.Above.{Above}
 use Rattle.amr_engine.specs.declared.advection.Hindrance.{Hindrance}
 use Rattle.amr_engine.specs.declared.advection.Hindrance.TheVariants.{TooFast, Content, FlowedOut}

@@ -4,15 +4,15 @@ use Rattle.amr_engine.specs.declared.advection.Hindrance.{Hindrance}
 use Rattle.amr_engine.specs.declared.advection.Hindrance.TheVariants.{TooFast, Content, FlowedOut}
 use Rattle.amr_engine.specs.declared.engine.Cause.{Cause}
 use Rattle.amr_engine.specs.declared.engine.Cause.TheVariants.{Range, Courant, Level, PlaceBlock, Blocks, WriteFault, OutOfMemory}
-use Rattle.mesh_model.specs.declared.script.Command.{Command}
-use Rattle.mesh_model.specs.declared.script.Command.TheVariants.{Regrid}
-use Rattle.mesh_model.specs.declared.script.Group.TheVariants.{Cell}
-use Rattle.mesh_model.specs.declared.stops.Refusal.{Refusal}
-use Rattle.mesh_model.specs.declared.stops.Refusal.TheVariants as refusals
-use Rattle.mesh_model.specs.declared.stops.Spot.TheVariants as spots
-use Rattle.mesh_model.specs.Plain.{Mesh}
-use Rattle.mesh_model.specs.Run.{mesh_after, text_of}
-use Rattle.mesh_model.specs.Stops.{refusal}
+use Rattle.mesh_model.specs.declared.language.script.Command.{Command}
+use Rattle.mesh_model.specs.declared.language.script.Command.TheVariants.{Regrid}
+use Rattle.mesh_model.specs.declared.fields.values.Group.TheVariants.{Cell}
+use Rattle.mesh_model.specs.declared.run.stops.Refusal.{Refusal}
+use Rattle.mesh_model.specs.declared.run.stops.Refusal.TheVariants as refusals
+use Rattle.mesh_model.specs.declared.fields.spot.Spot.TheVariants as spots
+use Rattle.mesh_model.specs.Fields.Plain.{Mesh}
+use Rattle.mesh_model.specs.Run.Runs.{mesh_after, text_of}
+use Rattle.mesh_model.specs.Run.Stops.{refusal}
 use Rattle.outside_io.specs.Moved.{Rose, Takes, TakesPrefix}
 
 -- the refusal of the mesh that a cause tells; a fault of the sink and want of memory are none

@@ -1,8 +1,8 @@
 -- The plain mesh of level 0 by lists of contents.
 use Rattle.std.specs.Prelude.{List, [], false, ℤ, pos, slice_index_or}
-use Rattle.mesh_model.specs.declared.script.Declared.{Declared}
-use Rattle.mesh_model.specs.Plain.{Mesh, on_cells}
-use Rattle.mesh_model.specs.Start.{start_grid}
+use Rattle.mesh_model.specs.declared.language.script.Declared.{Declared}
+use Rattle.mesh_model.specs.Fields.Plain.{Mesh, on_cells}
+use Rattle.mesh_model.specs.Tree.Start.{start_grid}
 use Rattle.amr_engine.specs.Contents.{content_in}
 
 -- the mesh of level 0 with these contents, and with what has flowed out of each variable

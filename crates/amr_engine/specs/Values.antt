@@ -1,11 +1,11 @@
 -- What a cell variable has at the places of the roots.
 use Rattle.std.specs.Prelude.{◌≡◌, ◌<◌, ℕ, Bool, true, false, List, ℤ, pos, unsigned_abs}
 use Rattle.block_tree.specs.Numbered.{block_at}
-use Rattle.mesh_model.specs.declared.Shape.{Shape}
-use Rattle.mesh_model.specs.declared.values.Var.{Var}
-use Rattle.mesh_model.specs.declared.values.Var.TheVariants.{Cell, Face, Edge, CellWork, FaceWork, EdgeWork}
-use Rattle.mesh_model.specs.Plain.{Grid}
-use Rattle.mesh_model.specs.Texts.{in_block}
+use Rattle.mesh_model.specs.declared.geometry.Shape.{Shape}
+use Rattle.mesh_model.specs.declared.fields.values.Var.{Var}
+use Rattle.mesh_model.specs.declared.fields.values.Var.TheVariants.{Cell, Face, Edge, CellWork, FaceWork, EdgeWork}
+use Rattle.mesh_model.specs.Tree.Kinds.{Grid}
+use Rattle.mesh_model.specs.Geometry.Places.{in_block}
 use Rattle.amr_engine.specs.Contents.{content_in}
 
 -- the array is that of a cell variable

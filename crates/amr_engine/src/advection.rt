@@ -4,23 +4,22 @@ ghost use Rattle.amr_engine.specs.Contents.{IsBlock, IsCell, IsRoots, cell_count
 ghost use Rattle.amr_engine.specs.Stepping.{IsOut, IsStep, Steps, Tries, flux_in, net_in};
 ghost use Rattle.amr_num.specs.Numbers.{Within};
 ghost use Rattle.block_tree.specs.GridOf.{grid_of};
-ghost use Rattle.mesh_model.specs.Advect.{above_or, below_or, is_closed_kind, speed as speed_on};
-ghost use Rattle.mesh_model.specs.Commands.{AreThree};
-ghost use Rattle.mesh_model.specs.Coordinates as coordinates;
-ghost use Rattle.mesh_model.specs.Coordinates.{after, face_of, on, side_index, side_kind, with};
-ghost use Rattle.mesh_model.specs.Limits.{IsShape};
-ghost use Rattle.mesh_model.specs.RangeWalk.{block_cells, cells_walked};
-ghost use Rattle.mesh_model.specs.Setting.{three};
-ghost use Rattle.mesh_model.specs.Start.{start_grid};
-ghost use Rattle.mesh_model.specs.Stops as stops;
-ghost use Rattle.mesh_model.specs.Texts.{in_block, places};
+ghost use Rattle.mesh_model.specs.Fields.Advect.{above_or, below_or, is_closed_kind, speed as speed_on, three};
+ghost use Rattle.mesh_model.specs.Language.Commands.{AreThree};
+ghost use Rattle.mesh_model.specs.Geometry.Coordinates as coordinates;
+ghost use Rattle.mesh_model.specs.Geometry.Coordinates.{after, face_of, on, side_index, side_kind, with};
+ghost use Rattle.mesh_model.specs.Geometry.Limits.{IsShape};
+ghost use Rattle.mesh_model.specs.Geometry.Places.{block_cells, in_block, places};
+ghost use Rattle.mesh_model.specs.Fields.RangeWalk.{cells_walked};
+ghost use Rattle.mesh_model.specs.Tree.Start.{start_grid};
+ghost use Rattle.mesh_model.specs.Run.Stops as stops;
 ghost use Rattle.std.specs.Prelude.{◌≡◌, ◌+◌, ◌*◌, ◌^◌, ◌<◌, ◌≤◌, ◌-ℤ◌, suc, unsigned_abs, [], ◌∷◌, length, map, flat_map, All};
 
 use crate::contents::{cell_in, place_of, total};
 use amr_num::{Axis, BlockAt, CellAt, SideKind};
 use block_tree::Tree;
 use mesh_model::Shape;
-use mesh_model::axes::{extent, is_periodic, place, placed};
+use mesh_model::geometry::axes::{extent, is_periodic, place, placed};
 use step_advect::{flux, settled};
 
 /// A cell that would hold a number out of range, and the number.
@@ -55,7 +54,7 @@ fn speeds_together(speeds: [i64; 3]) -> u64
 }
 
 /// Whether the speeds keep the Courant limit: together they move at most one finest cell a step.
-#[tactic(auto, unfolding(mesh_model::specs::Stops::keeps_courant))]
+#[tactic(auto, unfolding(mesh_model::specs::Run::Stops::keeps_courant))]
 fn keeps_courant(shape: &Shape, speeds: [i64; 3]) -> bool
     requires level { shape.now.max ≤ 10 }
     requires speeds { AreThree (2 ^ 20) speeds }

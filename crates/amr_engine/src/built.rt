@@ -1,11 +1,11 @@
 //! Which scripts are run.
 
 ghost use Rattle.amr_engine.specs.Built as plain;
-ghost use Rattle.mesh_model.specs.Commands.{plain_script};
+ghost use Rattle.mesh_model.specs.Language.Commands.{plain_script};
 ghost use Rattle.std.specs.List.{list_all};
 ghost use Rattle.std.specs.Prelude.{◌≡◌};
 
-use mesh_model::script::{Command, Declared, Line, Script};
+use mesh_model::language::script::{Command, Declared, Line, Script};
 
 /// Whether the command is built under these declarations.
 fn is_built_command(declared: &Declared, command: Command) -> bool

@@ -3,18 +3,18 @@
 ghost use Rattle.amr_engine.specs.Contents.{AllAtMost, IsBlock, IsCell, IsFilledBelow, IsRoots, cell_at, cell_count, content_in, place, row_contents};
 ghost use Rattle.amr_num.specs.Numbers.{Within, sum_below};
 ghost use Rattle.block_tree.specs.GridOf.{grid_of};
-ghost use Rattle.mesh_model.specs.Coordinates.{extent};
-ghost use Rattle.mesh_model.specs.Fill.{is_between, is_in_box};
-ghost use Rattle.mesh_model.specs.Texts.{in_block, places};
-ghost use Rattle.mesh_model.specs.Totals.{block_sum, sum_over};
-ghost use Rattle.mesh_model.specs.Start.{start_grid, start_leaves};
-ghost use Rattle.mesh_model.specs.Touch.{high_end, low_end};
+ghost use Rattle.mesh_model.specs.Geometry.Coordinates.{extent};
+ghost use Rattle.mesh_model.specs.Fields.Fill.{is_between, is_in_box};
+ghost use Rattle.mesh_model.specs.Geometry.Places.{in_block, places};
+ghost use Rattle.mesh_model.specs.Fields.Totals.{block_sum, sum_over};
+ghost use Rattle.mesh_model.specs.Tree.Start.{start_grid, start_leaves};
+ghost use Rattle.mesh_model.specs.Geometry.Touch.{high_end, low_end};
 ghost use Rattle.std.specs.Prelude.{◌≡◌, ℕ, ◌+◌, ◌*◌, ◌<◌, ◌≤◌, ◌^◌, ◌&&◌, if◌then◌else◌, nat_le, List, length, map, replicate, IfOk, ℤ, pos, true, slice_index, slice_index_or};
 
 use amr_num::{Axis, BlockAt, CellAt, OutOfMemory};
 use block_tree::Tree;
 use mesh_model::Shape;
-use mesh_model::axes::roots;
+use mesh_model::geometry::axes::roots;
 use std::alloc::Global;
 
 /// How many cells of level 0 stand side by side along an axis.
@@ -205,7 +205,7 @@ fn lies_between(box_level: u32, low: u32, high: u32, level: u32, at: u32) -> boo
 }
 
 /// Whether the cell's whole region lies in the box of the cells of `level` from `low` up to below `high`.
-#[tactic(auto, unfolding(mesh_model::specs::Fill::is_in_box))]
+#[tactic(auto, unfolding(mesh_model::specs::Fields::Fill::is_in_box))]
 fn lies_in_box(level: u32, low: [u32; 3], high: [u32; 3], cell: CellAt) -> bool
     requires levels { (level ≤ 10) × (cell.level ≤ 10) }
     requires low { AllAtMost (2 ^ 20) low }

@@ -6,9 +6,10 @@ use crate::hierarchy::Hierarchy;
 use crate::values::CellValues;
 use amr_num::{BlockAt, OutOfMemory};
 use amr_report::{print_mesh, print_size, print_total, print_tree, print_var};
-use mesh_model::names::Names;
-use mesh_model::script::{Command, Declared, Group, Line};
-use mesh_model::stops::{LevelStop, RangeStop, Refusal, Spot};
+use mesh_model::language::names::Names;
+use mesh_model::language::script::{Command, Declared, Line};
+use mesh_model::run::stops::{LevelStop, Refusal};
+use mesh_model::{Group, RangeStop, Spot};
 use outside_io::Failed;
 use outside_io::disk::Disk;
 use outside_io::sink::Sink;
@@ -63,8 +64,8 @@ pub struct Engine {
 ghost use Rattle.amr_engine.specs.Contents.{IsUniform, KeepsLimits, cell_count};
 ghost use Rattle.amr_engine.specs.UniformMesh.{uniform_mesh};
 ghost use Rattle.block_tree.specs.GridOf.{grid_of};
-ghost use Rattle.mesh_model.specs.Start.{start_grid};
-ghost use Rattle.mesh_model.specs.Valid.{InRange, ValidMesh};
+ghost use Rattle.mesh_model.specs.Tree.Start.{start_grid};
+ghost use Rattle.mesh_model.specs.Fields.Valid.{InRange, ValidMesh};
 ghost use Rattle.std.specs.Prelude.{◌≡◌, ◌<◌, ◌^◌, MatchResult, Ok, Err, length, map};
 
 /// The stop of a variable that would have a number out of range.
@@ -123,13 +124,13 @@ impl Engine {
     ghost use Rattle.amr_engine.specs.Plain.{declared_of, plain, values_of};
     ghost use Rattle.amr_report.specs.Printing.{Prints};
     ghost use Rattle.amr_engine.specs.Stopping.{Acts, Changes, IsCause, Regrows};
-    ghost use Rattle.mesh_model.specs.Commands.{AreThree, IsBox, IsCellVariable, IsCommandOf, IsGroup, IsLeafNumber, IsLineOf};
-    ghost use Rattle.mesh_model.specs.Fill.{fill_all as plain_fill_all, fill_box as plain_fill_box};
-    ghost use Rattle.mesh_model.specs.Limits.{IsShape};
-    ghost use Rattle.mesh_model.specs.Run.{KeepsOuts, KeepsTotals, StaysPositive, mesh_after, text_of};
-    ghost use Rattle.mesh_model.specs.Start.{start_mesh};
-    ghost use Rattle.mesh_model.specs.Stops.{refusal};
-    ghost use Rattle.mesh_model.specs.Texts.{total_text, variable_text};
+    ghost use Rattle.mesh_model.specs.Language.Commands.{AreThree, IsBox, IsCellVariable, IsCommandOf, IsGroup, IsLeafNumber, IsLineOf};
+    ghost use Rattle.mesh_model.specs.Fields.Fill.{fill_all as plain_fill_all, fill_box as plain_fill_box};
+    ghost use Rattle.mesh_model.specs.Geometry.Limits.{IsShape};
+    ghost use Rattle.mesh_model.specs.Run.Runs.{KeepsOuts, KeepsTotals, StaysPositive, mesh_after, text_of};
+    ghost use Rattle.mesh_model.specs.Fields.Start.{start_mesh};
+    ghost use Rattle.mesh_model.specs.Run.Stops.{refusal};
+    ghost use Rattle.mesh_model.specs.Run.Texts.{total_text, variable_text};
     ghost use Rattle.outside_io.specs.Moved.{Takes};
     ghost use Rattle.std.specs.Prelude.{◌≤◌, true, IfErr, IfOk, None, OnErr, OnOk};
 

@@ -3,7 +3,7 @@
 ghost use Rattle.amr_engine.specs.Marking.{AreMarks};
 ghost use Rattle.block_tree.specs.GridOf.{grid_of};
 ghost use Rattle.block_tree.specs.Marked.{room as room_of};
-ghost use Rattle.mesh_model.specs.Limits.{most_nodes};
+ghost use Rattle.mesh_model.specs.Geometry.Limits.{most_nodes};
 ghost use Rattle.std.specs.Prelude.{◌≡◌};
 
 use crate::engine::Cause;
@@ -24,11 +24,12 @@ pub struct Hierarchy {
 
 impl Hierarchy {
     ghost use Rattle.amr_engine.specs.Growth.{HasHierarchy, Marks as marks_leaf, Regrids, grid_in};
-    ghost use Rattle.mesh_model.specs.Limits.{IsShape};
-    ghost use Rattle.mesh_model.specs.Plain.{Mesh};
-    ghost use Rattle.mesh_model.specs.Start.{start_grid, start_mesh};
-    ghost use Rattle.mesh_model.specs.VariableNames.{VariableNames};
-    ghost use Rattle.mesh_model.specs.declared.script.Command.TheVariants as command;
+    ghost use Rattle.mesh_model.specs.Geometry.Limits.{IsShape};
+    ghost use Rattle.mesh_model.specs.Fields.Plain.{Mesh};
+    ghost use Rattle.mesh_model.specs.Tree.Start.{start_grid};
+    ghost use Rattle.mesh_model.specs.Fields.Start.{start_mesh};
+    ghost use Rattle.mesh_model.specs.Fields.VariableNames.{VariableNames};
+    ghost use Rattle.mesh_model.specs.declared.language.script.Command.TheVariants as command;
     ghost use Rattle.std.specs.Prelude.{IfOk};
 
     /// The roots of a shape, without marks.

@@ -8,5 +8,6 @@ pub mod engine;
 mod hierarchy;
 mod values;
 
-pub use mesh_model::names::Names;
-pub use mesh_model::script::{Command, Declared, Group, Line, Script};
+pub use mesh_model::Group;
+pub use mesh_model::language::names::Names;
+pub use mesh_model::language::script::{Command, Declared, Line, Script};

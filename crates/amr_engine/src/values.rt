@@ -4,7 +4,7 @@ ghost use Rattle.amr_engine.specs.Contents.{IsRoots, cell_count};
 ghost use Rattle.amr_engine.specs.Values.{IsWithin, is_cell_array, number_in};
 ghost use Rattle.block_tree.specs.GridOf.{grid_of};
 ghost use Rattle.block_tree.specs.Numbered.{IsNode};
-ghost use Rattle.mesh_model.specs.Start.{start_grid};
+ghost use Rattle.mesh_model.specs.Tree.Start.{start_grid};
 ghost use Rattle.std.specs.Prelude.{◌≡◌, length, true};
 
 use crate::contents::{cell_in, place_of};

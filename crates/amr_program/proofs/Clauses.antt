@@ -1,14 +1,14 @@
 -- What the clauses of the program say follows from how its run ended.
 use Rattle.std.proofs.Common.{◌≡◌, ◌≢◌, ℕ, Bool, true, false, if◌then◌else◌, ◌<◌, ◌++◌, ◌⊎◌, List, [], ◌∷◌, Option, Some, None, Result, Ok, Err, inl, inr, refl, sym, ap, subst, ◌∙◌, arith, IfSome, take, drop, map}
-use Rattle.mesh_model.specs.Commands.{PlainScript}
+use Rattle.mesh_model.specs.Language.Commands.{PlainScript}
 use Rattle.amr_engine.specs.Built.{is_built}
-use Rattle.mesh_model.specs.Grammar.{Fault, script_of}
-use Rattle.mesh_model.specs.Run.{Refused}
+use Rattle.mesh_model.specs.Language.Grammar.{Fault, script_of}
+use Rattle.mesh_model.specs.Run.Runs.{Refused}
 use Rattle.outside_io.specs.Moved.{Rose, Takes}
 use Rattle.amr_engine.specs.Stopping.{Written}
-use Rattle.mesh_model.specs.declared.stops.Refusal as stops
-use Rattle.mesh_model.specs.declared.stops.Refusal.TheVariants as why
-use Rattle.mesh_model.specs.VariableNames.{VariableNames}
+use Rattle.mesh_model.specs.declared.run.stops.Refusal as stops
+use Rattle.mesh_model.specs.declared.run.stops.Refusal.TheVariants as why
+use Rattle.mesh_model.specs.Fields.VariableNames.{VariableNames}
 use Rattle.amr_program.specs.declared.status.Status.{Status}
 use Rattle.amr_program.specs.declared.status.Status.TheVariants as status
 use Rattle.amr_program.specs.declared.program.TheConstants.{LIMIT}

@@ -8,29 +8,28 @@ use Rattle.amr_num.specs.declared.Axis.TheVariants.{X, Y, Z}
 use Rattle.amr_num.specs.declared.SideKind.{SideKind}
 use Rattle.amr_num.specs.declared.SideKind.TheVariants.{Periodic}
 use Rattle.script_lang.proofs.Scripts.{script_fits, script_in_limits}
-use Rattle.mesh_model.specs.declared.script.Command.{Command}
-use Rattle.mesh_model.specs.declared.script.Command.TheVariants as command
-use Rattle.mesh_model.specs.declared.stops.Refusal as stops
-use Rattle.mesh_model.specs.declared.stops.Refusal.TheVariants as why
-use Rattle.mesh_model.specs.Coordinates.{is_periodic_kind, roots, side_index, side_kind}
-use Rattle.mesh_model.specs.Grammar.{script_of}
-use Rattle.mesh_model.specs.Limits.{IsShape}
-use Rattle.mesh_model.specs.StopTexts.{stop_line}
-use Rattle.mesh_model.specs.Stops.{refusal}
-use Rattle.mesh_model.specs.Valid.{ValidMesh}
-use Rattle.mesh_model.proofs.Start.{start_mesh_valid}
+use Rattle.mesh_model.specs.declared.language.script.Command.{Command}
+use Rattle.mesh_model.specs.declared.language.script.Command.TheVariants as command
+use Rattle.mesh_model.specs.declared.run.stops.Refusal as stops
+use Rattle.mesh_model.specs.declared.run.stops.Refusal.TheVariants as why
+use Rattle.mesh_model.specs.Geometry.Coordinates.{is_periodic_kind, roots, side_index, side_kind}
+use Rattle.mesh_model.specs.Language.Grammar.{script_of, Fault}
+use Rattle.mesh_model.specs.Geometry.Limits.{IsShape}
+use Rattle.mesh_model.specs.Run.StopTexts.{stop_line}
+use Rattle.mesh_model.specs.Run.Stops.{refusal}
+use Rattle.mesh_model.specs.Fields.Valid.{ValidMesh}
+use Rattle.mesh_model.proofs.FieldLemmas.Start.{start_mesh_valid}
 use Rattle.amr_program.specs.declared.program.TheConstants.{LIMIT}
-use Rattle.mesh_model.specs.declared.script.Declared.{Declared}
-use Rattle.mesh_model.specs.declared.script.Line.{Line}
+use Rattle.mesh_model.specs.declared.language.script.Declared.{Declared}
+use Rattle.mesh_model.specs.declared.language.script.Line.{Line}
 use Rattle.amr_engine.specs.declared.engine.Cause.{Cause}
 use Rattle.amr_engine.specs.declared.engine.Cause.TheVariants as causes
 use Rattle.amr_engine.specs.Stopping.{IsCause, Written}
 use Rattle.amr_report.proofs.Printed.{broke_within}
 use Rattle.amr_engine.specs.Contents.{IsRoots}
 use Rattle.amr_engine.specs.Built.{IsBuiltLine, is_built, is_built_mesh, is_built_command}
-use Rattle.mesh_model.specs.Commands.{InLimits, IsLineOf, PlainScript}
-use Rattle.mesh_model.specs.Grammar.{Fault}
-use Rattle.mesh_model.specs.Plain.{Mesh}
+use Rattle.mesh_model.specs.Language.Commands.{InLimits, IsLineOf, PlainScript}
+use Rattle.mesh_model.specs.Fields.Plain.{Mesh}
 use Rattle.outside_io.specs.Moved.{Rose, Takes, TakesPrefix}
 use Rattle.outside_io.proofs.Moving.{takes_more}
 use Rattle.amr_program.specs.declared.status.Status.{Status}
@@ -40,7 +39,7 @@ use Rattle.amr_program.specs.declared.refusal.Refusal.TheVariants as refusals
 use Rattle.amr_program.specs.Answer.{AlongRun, MayWant, admitted, answer_of, done_in, ending, first_texts, read_in, script_in, status_of, stop_in}
 use Rattle.amr_program.specs.Lines.{memory_line, refusal_line}
 use Rattle.amr_program.specs.Outcome.{Came, Ended, RunStops, Stopped, Wrote, WrotePart}
-use Rattle.mesh_model.specs.Run.{AtEachCommand, declared_in, done, first_mesh, mesh_after, mesh_of, stop, text_of, texts}
+use Rattle.mesh_model.specs.Run.Runs.{AtEachCommand, declared_in, done, first_mesh, mesh_after, mesh_of, stop, text_of, texts}
 
 -- ---- commands after others
 

@@ -5,9 +5,9 @@ use Rattle.std.proofs.lemmas.Grind.{flat_map-append}
 use Rattle.std.proofs.lemmas.List.{map-append}
 use Rattle.std.specs.Fmt.{signed_decimal}
 use Rattle.std.specs.List.{join_with_byte}
-use Rattle.mesh_model.specs.VariableNames.{VariableNames}
-use Rattle.mesh_model.specs.declared.stops.Refusal as stops
-use Rattle.mesh_model.specs.StopTexts.{refusal_words, stop_line}
+use Rattle.mesh_model.specs.Fields.VariableNames.{VariableNames}
+use Rattle.mesh_model.specs.declared.run.stops.Refusal as stops
+use Rattle.mesh_model.specs.Run.StopTexts.{refusal_words, stop_line}
 use Rattle.amr_report.specs.Printing.{with_word}
 use Rattle.amr_program.specs.Lines.{more_words}
 

@@ -1,17 +1,17 @@
 -- The plain answer: what a run answers and prints, as a function of its words and of the bytes of its source.
 use Rattle.std.specs.Prelude.{◌≡◌, ℕ, true, false, if◌then◌else◌, List, [], ◌∷◌, ◌++◌, Option, Some, None, Result, Ok, Err, ◌⊎◌, drop, take}
 use Rattle.amr_engine.specs.Built.{is_built}
-use Rattle.mesh_model.specs.Commands.{PlainScript}
-use Rattle.mesh_model.specs.Grammar.{Fault, script_of}
-use Rattle.mesh_model.specs.Plain.{Mesh}
-use Rattle.mesh_model.specs.Run.{AtEachCommand, Refused, done, first_mesh, stop, texts}
-use Rattle.mesh_model.specs.StopTexts.{stop_line}
-use Rattle.mesh_model.specs.VariableNames.{VariableNames}
-use Rattle.mesh_model.specs.declared.script.Command.{Command}
-use Rattle.mesh_model.specs.declared.script.Command.TheVariants as command
-use Rattle.mesh_model.specs.declared.script.Line.{Line}
-use Rattle.mesh_model.specs.declared.stops.Refusal as stops
-use Rattle.mesh_model.specs.declared.stops.Refusal.TheVariants as why
+use Rattle.mesh_model.specs.Language.Commands.{PlainScript}
+use Rattle.mesh_model.specs.Language.Grammar.{Fault, script_of}
+use Rattle.mesh_model.specs.Fields.Plain.{Mesh}
+use Rattle.mesh_model.specs.Run.Runs.{AtEachCommand, Refused, done, first_mesh, stop, texts}
+use Rattle.mesh_model.specs.Run.StopTexts.{stop_line}
+use Rattle.mesh_model.specs.Fields.VariableNames.{VariableNames}
+use Rattle.mesh_model.specs.declared.language.script.Command.{Command}
+use Rattle.mesh_model.specs.declared.language.script.Command.TheVariants as command
+use Rattle.mesh_model.specs.declared.language.script.Line.{Line}
+use Rattle.mesh_model.specs.declared.run.stops.Refusal as stops
+use Rattle.mesh_model.specs.declared.run.stops.Refusal.TheVariants as why
 use Rattle.outside_io.specs.Moved.{Takes, TakesPrefix}
 use Rattle.amr_program.specs.declared.status.Status.{Status}
 use Rattle.amr_program.specs.declared.status.Status.TheVariants.{Done, Words, Script, Stopped, Level}

@@ -1,6 +1,6 @@
 -- The last lines that a run writes.
 use Rattle.std.specs.Prelude.{ℕ, List, ◌∷◌, ◌++◌, codes, decimal, flat_map}
-use Rattle.mesh_model.specs.Texts.{reason_text}
+use Rattle.mesh_model.specs.Language.Reasons.{reason_text}
 use Rattle.amr_program.specs.declared.refusal.Refusal.{Refusal}
 use Rattle.amr_program.specs.declared.refusal.Refusal.TheVariants.{Fault, NotBuilt}
 

@@ -3,14 +3,14 @@ use Rattle.std.specs.Prelude.{◌≡◌, ◌≢◌, ℕ, List, [], ◌++◌, Opt
 use Rattle.amr_engine.specs.declared.engine.Cause.{Cause}
 use Rattle.amr_engine.specs.declared.engine.Cause.TheVariants as causes
 use Rattle.amr_engine.specs.Stopping.{IsUntouched, Written, refusal_of}
-use Rattle.mesh_model.specs.declared.script.Line.{Line}
-use Rattle.mesh_model.specs.Commands.{PlainScript}
-use Rattle.mesh_model.specs.Grammar.{script_of}
-use Rattle.mesh_model.specs.Plain.{Mesh}
-use Rattle.mesh_model.specs.Run.{done, stop, texts}
-use Rattle.mesh_model.specs.StopTexts.{stop_line}
-use Rattle.mesh_model.specs.VariableNames.{VariableNames}
-use Rattle.mesh_model.specs.declared.stops.Refusal as stops
+use Rattle.mesh_model.specs.declared.language.script.Line.{Line}
+use Rattle.mesh_model.specs.Language.Commands.{PlainScript}
+use Rattle.mesh_model.specs.Language.Grammar.{script_of}
+use Rattle.mesh_model.specs.Fields.Plain.{Mesh}
+use Rattle.mesh_model.specs.Run.Runs.{done, stop, texts}
+use Rattle.mesh_model.specs.Run.StopTexts.{stop_line}
+use Rattle.mesh_model.specs.Fields.VariableNames.{VariableNames}
+use Rattle.mesh_model.specs.declared.run.stops.Refusal as stops
 use Rattle.outside_io.specs.Moved.{Rose, Takes, TakesPrefix}
 use Rattle.amr_program.specs.declared.status.Status.{Status}
 use Rattle.amr_program.specs.declared.status.Status.TheVariants as status

@@ -1,6 +1,6 @@
 //! Why a script is not run.
 
-use mesh_model::script::Reason;
+use mesh_model::language::script::Reason;
 
 /// Why a script is not run.
 #[derive(Clone, Copy, Debug, PartialEq, Eq)]

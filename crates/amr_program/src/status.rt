@@ -1,6 +1,6 @@
 //! How a run ends, and its exit number.
 
-use mesh_model::stops::Refusal;
+use mesh_model::run::stops::Refusal;
 
 /// How a run of the program ended.
 #[derive(Clone, Copy, Debug, PartialEq, Eq)]

@@ -1,16 +1,16 @@
 //! The line of a command that the mesh refuses.
 
 ghost use Rattle.amr_program.specs.Lines.{more_words};
-ghost use Rattle.mesh_model.specs.StopTexts as plain;
-ghost use Rattle.mesh_model.specs.StopTexts.{refusal_words, spot_words};
-ghost use Rattle.mesh_model.specs.Texts as texts;
+ghost use Rattle.mesh_model.specs.Run.StopTexts as plain;
+ghost use Rattle.mesh_model.specs.Run.StopTexts.{refusal_words, spot_words};
+ghost use Rattle.mesh_model.specs.Run.Texts as texts;
 ghost use Rattle.std.specs.Fmt.{signed_decimal};
 ghost use Rattle.std.specs.Prelude.{◌≡◌, ◌+◌, ◌≤◌, [], ◌∷◌, ◌++◌, decimal, length, map};
 
 use amr_report::{Line, axis_name};
-use mesh_model::names::Names;
-use mesh_model::script::Group;
-use mesh_model::stops::{Refusal, Spot};
+use mesh_model::language::names::Names;
+use mesh_model::run::stops::Refusal;
+use mesh_model::{Group, Spot};
 
 /// The name of a group's variable, which is empty where there is none.
 fn group_name(names: &Names, group: Group) -> &str

@@ -11,10 +11,10 @@ use Rattle.block_tree.specs.GridOf.{grid_of}
 use Rattle.block_tree.specs.Numbered.{block_at}
 use Rattle.block_tree.proofs.Facts.{known}
 use Rattle.block_tree.proofs.Leaves.{leaves_are}
-use Rattle.mesh_model.specs.Order.{nodes}
-use Rattle.mesh_model.specs.Plain.{Grid, is_leaf_block}
-use Rattle.mesh_model.specs.Valid.{Valid}
-use Rattle.mesh_model.specs.TreeText.{node_text, nodes_text}
+use Rattle.mesh_model.specs.Tree.Order.{nodes}
+use Rattle.mesh_model.specs.Tree.Kinds.{Grid, is_leaf_block}
+use Rattle.mesh_model.specs.Tree.ValidGrid.{Valid}
+use Rattle.mesh_model.specs.Run.TreeText.{node_text, nodes_text}
 use Rattle.amr_report.specs.Nodes.{line_of, of_leaf}
 use Rattle.amr_report.proofs.Printed.{Broke, Printed, flat_next, place_broke}
 

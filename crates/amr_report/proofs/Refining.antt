@@ -9,15 +9,15 @@ use Rattle.block_tree.proofs.Facts.{known}
 use Rattle.block_tree.proofs.Flags.{set_empty, set_says}
 use Rattle.block_tree.proofs.Leaves.{node_inside}
 use Rattle.block_tree.proofs.Numbers.{node_in_all}
-use Rattle.mesh_model.specs.declared.Shape.{Shape}
-use Rattle.mesh_model.specs.Limits.{IsShape}
-use Rattle.mesh_model.specs.Order.{IsIn, nodes}
-use Rattle.mesh_model.specs.Plain.{Grid}
-use Rattle.mesh_model.specs.Start.{start_grid}
-use Rattle.mesh_model.specs.Valid.{InDomain}
-use Rattle.mesh_model.proofs.Nodes.{node_in}
-use Rattle.mesh_model.proofs.Regrown.{new_source}
-use Rattle.mesh_model.proofs.Roots.{start_every, start_root}
+use Rattle.mesh_model.specs.declared.geometry.Shape.{Shape}
+use Rattle.mesh_model.specs.Geometry.Limits.{IsShape}
+use Rattle.mesh_model.specs.Tree.Order.{IsIn, nodes}
+use Rattle.mesh_model.specs.Tree.Kinds.{Grid}
+use Rattle.mesh_model.specs.Tree.Start.{start_grid}
+use Rattle.mesh_model.specs.Tree.ValidGrid.{InDomain}
+use Rattle.mesh_model.proofs.FieldLemmas.Nodes.{node_in}
+use Rattle.mesh_model.proofs.FieldLemmas.Regrown.{new_source}
+use Rattle.mesh_model.proofs.TreeLemmas.Roots.{start_every, start_root}
 
 module _ (t : Tree) (s : Shape) (start : grid_of t ≡ start_grid s) (low : s.max ≡ 1) where
   level_zero : (b : BlockAt) → IsIn b (grid_of t).leaves → b.level ≡ 0

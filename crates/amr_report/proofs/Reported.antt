@@ -15,13 +15,12 @@ use Rattle.block_tree.proofs.Facts.{known}
 use Rattle.block_tree.proofs.Flags.{same_says, same_shows}
 use Rattle.block_tree.proofs.Members.{in_at}
 use Rattle.block_tree.proofs.Next.{all_sorted}
-use Rattle.mesh_model.specs.Order.{IsIn, Sorted, key, nodes}
-use Rattle.mesh_model.specs.Plain.{Grid, is_leaf_block}
-use Rattle.mesh_model.specs.Blocks.{children, parent_block}
+use Rattle.mesh_model.specs.Tree.Order.{IsIn, Sorted, key, nodes}
+use Rattle.mesh_model.specs.Tree.Kinds.{Grid, is_leaf_block}
+use Rattle.mesh_model.specs.Geometry.Blocks.{children, parent_block, is_same_block}
 use Rattle.std.specs.List.{list_any}
-use Rattle.mesh_model.specs.Setting.{is_same_block}
-use Rattle.mesh_model.specs.Tree.{all_across, number_of, parent_reported, reported, place_in, type_of}
-use Rattle.mesh_model.proofs.Tests.{refuted}
+use Rattle.mesh_model.specs.Tree.Reported.{all_across, number_of, parent_reported, reported, place_in, type_of}
+use Rattle.mesh_model.proofs.TreeLemmas.Tests.{refuted}
 use Rattle.amr_report.specs.Nodes.{line_of, node_begin, with_across, with_kind}
 use Rattle.amr_report.proofs.Joined.{join_words}
 

@@ -2,12 +2,12 @@
 use Rattle.std.proofs.Common.{◌≡◌, ℕ, ◌==◌, if◌then◌else◌, [], ◌∷◌, pos, refl, ap}
 use Rattle.std.specs.Fmt.{signed_decimal}
 use Rattle.std.specs.Prelude.{codes, unsigned_abs}
-use Rattle.mesh_model.specs.declared.script.Group.TheVariants.{Cell, Face}
-use Rattle.mesh_model.specs.Circulation.{net_flux}
-use Rattle.mesh_model.specs.Plain.{Mesh}
-use Rattle.mesh_model.specs.Texts.{group_name, netflux_text, text_line, total_text}
-use Rattle.mesh_model.specs.Totals.{leaf_sum, total}
-use Rattle.mesh_model.specs.Views.{face_view}
+use Rattle.mesh_model.specs.declared.fields.values.Group.TheVariants.{Cell, Face}
+use Rattle.mesh_model.specs.Fields.Circulation.{net_flux}
+use Rattle.mesh_model.specs.Fields.Plain.{Mesh}
+use Rattle.mesh_model.specs.Run.Texts.{group_name, netflux_text, text_line, total_text}
+use Rattle.mesh_model.specs.Fields.Totals.{leaf_sum, total}
+use Rattle.mesh_model.specs.Fields.Views.{face_view}
 use Rattle.amr_report.specs.Totals.{netflux_line, total_line}
 
 pub total_shown : (m : Mesh) (v : ℕ) → total_text m v ≡ total_line (group_name m.names (Cell v)) (total m.grid (m.cells v)) (m.outs v)

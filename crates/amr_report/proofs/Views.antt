@@ -9,13 +9,15 @@ use Rattle.amr_num.specs.declared.Axis.{Axis}
 use Rattle.amr_num.specs.declared.Axis.TheVariants.{X, Y, Z}
 use Rattle.amr_num.specs.declared.BlockAt.{BlockAt}
 use Rattle.block_tree.specs.Numbered.{IsNode, block_at}
-use Rattle.mesh_model.specs.declared.script.Group.{Group}
-use Rattle.mesh_model.specs.declared.script.Group.TheVariants.{Cell, Face, Edge}
-use Rattle.mesh_model.specs.declared.values.Var.{Var}
-use Rattle.mesh_model.specs.Order.{nodes}
-use Rattle.mesh_model.specs.Plain.{Grid, Mesh, is_leaf_block}
-use Rattle.mesh_model.specs.Texts.{array_text, cell_block_text, edge_block_text, face_block_text, group_name, guards_text, number_line, places, variable_text}
-use Rattle.mesh_model.specs.Valid.{Valid}
+use Rattle.mesh_model.specs.declared.fields.values.Group.{Group}
+use Rattle.mesh_model.specs.declared.fields.values.Group.TheVariants.{Cell, Face, Edge}
+use Rattle.mesh_model.specs.declared.fields.values.Var.{Var}
+use Rattle.mesh_model.specs.Tree.Order.{nodes}
+use Rattle.mesh_model.specs.Tree.Kinds.{Grid, is_leaf_block}
+use Rattle.mesh_model.specs.Fields.Plain.{Mesh}
+use Rattle.mesh_model.specs.Run.Texts.{array_text, cell_block_text, edge_block_text, face_block_text, group_name, guards_text, number_line, variable_text}
+use Rattle.mesh_model.specs.Geometry.Places.{places}
+use Rattle.mesh_model.specs.Tree.ValidGrid.{Valid}
 use Rattle.amr_report.specs.Arrays.{array_on, at_place, group_text, head_line, interior_of, leaf_text_of, named_array, places_along, plane_text, planes_text, row_text, size_along, whole_of}
 use Rattle.amr_report.specs.Nodes.{of_leaf}
 use Rattle.amr_report.specs.Values.{HasGuardValues, HasViews, IsPlace, guard_value, interior_value}

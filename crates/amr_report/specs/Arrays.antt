@@ -2,13 +2,14 @@
 use Rattle.std.specs.Prelude.{ℕ, ◌+◌, ◌*◌, ◌<◌, ◌≤◌, if◌then◌else◌, List, [], ◌∷◌, ◌++◌, None, Some, flat_map, map, ℤ, pos, ◌-ℤ◌, codes, unwrap_or}
 use Rattle.amr_num.specs.declared.Axis.{Axis}
 use Rattle.amr_num.specs.declared.Axis.TheVariants.{X, Y, Z}
-use Rattle.mesh_model.specs.declared.script.Group.{Group}
-use Rattle.mesh_model.specs.declared.script.Group.TheVariants as group
-use Rattle.mesh_model.specs.declared.values.Var.{Var}
-use Rattle.mesh_model.specs.declared.values.Var.TheVariants.{Cell, Face, Edge, CellWork, FaceWork, EdgeWork}
-use Rattle.mesh_model.specs.Texts.{axis_name, block_words, longer_across, longer_on, number_line, places, text_line}
+use Rattle.mesh_model.specs.declared.fields.values.Group.{Group}
+use Rattle.mesh_model.specs.declared.fields.values.Group.TheVariants as group
+use Rattle.mesh_model.specs.declared.fields.values.Var.{Var}
+use Rattle.mesh_model.specs.declared.fields.values.Var.TheVariants.{Cell, Face, Edge, CellWork, FaceWork, EdgeWork}
+use Rattle.mesh_model.specs.Run.Texts.{axis_name, block_words, number_line, text_line}
+use Rattle.mesh_model.specs.Geometry.Places.{longer_across, longer_on, places}
 use Rattle.block_tree.specs.Numbered.{block_at}
-use Rattle.mesh_model.specs.Plain.{Grid, is_leaf_block}
+use Rattle.mesh_model.specs.Tree.Kinds.{Grid, is_leaf_block}
 use Rattle.amr_report.specs.declared.arrays.Shown.{Shown}
 
 -- the axes for which a group has an array each; a cell variable has one array

@@ -4,11 +4,11 @@ use Rattle.std.specs.Fmt.{signed_decimal}
 use Rattle.amr_num.specs.declared.Axis.{Axis}
 use Rattle.amr_num.specs.declared.BlockAt.{BlockAt}
 use Rattle.block_tree.specs.Numbered.{block_at}
-use Rattle.mesh_model.specs.Order.{nodes}
-use Rattle.mesh_model.specs.Plain.{Grid, is_leaf_block}
-use Rattle.mesh_model.specs.Texts.{text_line}
-use Rattle.mesh_model.specs.Tree.{across, high_neighbour, low_neighbour}
-use Rattle.mesh_model.specs.TreeText.{node_text}
+use Rattle.mesh_model.specs.Tree.Order.{nodes}
+use Rattle.mesh_model.specs.Tree.Kinds.{Grid, is_leaf_block}
+use Rattle.mesh_model.specs.Run.Texts.{text_line}
+use Rattle.mesh_model.specs.Tree.Reported.{across, high_neighbour, low_neighbour}
+use Rattle.mesh_model.specs.Run.TreeText.{node_text}
 use Rattle.amr_report.specs.Printing.{with_words}
 
 -- how many nodes and leaves there are

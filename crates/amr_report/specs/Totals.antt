@@ -1,7 +1,7 @@
 -- The lines of totals and net fluxes.
 use Rattle.std.specs.Prelude.{ℕ, List, [], ◌∷◌, ℤ, codes, decimal}
 use Rattle.std.specs.Fmt.{signed_decimal}
-use Rattle.mesh_model.specs.Texts.{text_line}
+use Rattle.mesh_model.specs.Run.Texts.{text_line}
 
 -- the total of a cell variable, and what has flowed out of the domain
 abbrev pub total_line : List ℕ → ℤ → ℤ → List ℕ

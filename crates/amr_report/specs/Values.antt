@@ -4,15 +4,17 @@ use Rattle.amr_num.specs.declared.Axis.{Axis}
 use Rattle.amr_num.specs.declared.Axis.TheVariants.{X, Y, Z}
 use Rattle.amr_num.specs.declared.BlockAt.{BlockAt}
 use Rattle.block_tree.specs.Numbered.{IsNode, block_at}
-use Rattle.mesh_model.specs.declared.Shape.{Shape}
-use Rattle.mesh_model.specs.declared.script.Group.{Group}
-use Rattle.mesh_model.specs.declared.script.Group.TheVariants.{Cell, Face, Edge}
-use Rattle.mesh_model.specs.declared.values.Var.{Var}
-use Rattle.mesh_model.specs.Coordinates.{edge_of, face_of, next}
-use Rattle.mesh_model.specs.GuardValues.{cell_guard, edge_guard, face_guard}
-use Rattle.mesh_model.specs.Plain.{Grid, Mesh, is_leaf_block}
-use Rattle.mesh_model.specs.Texts.{guard_index, in_block, named_on}
-use Rattle.mesh_model.specs.Views.{edge_view, face_view}
+use Rattle.mesh_model.specs.declared.geometry.Shape.{Shape}
+use Rattle.mesh_model.specs.declared.fields.values.Group.{Group}
+use Rattle.mesh_model.specs.declared.fields.values.Group.TheVariants.{Cell, Face, Edge}
+use Rattle.mesh_model.specs.declared.fields.values.Var.{Var}
+use Rattle.mesh_model.specs.Geometry.Coordinates.{edge_of, face_of, next}
+use Rattle.mesh_model.specs.Fields.GuardValues.{cell_guard, edge_guard, face_guard}
+use Rattle.mesh_model.specs.Tree.Kinds.{Grid, is_leaf_block}
+use Rattle.mesh_model.specs.Fields.Plain.{Mesh}
+use Rattle.mesh_model.specs.Geometry.Places.{guard_index, in_block}
+use Rattle.mesh_model.specs.Geometry.Canonical.{named_on}
+use Rattle.mesh_model.specs.Fields.Views.{edge_view, face_view}
 use Rattle.amr_report.specs.Arrays.{array_on, places_along}
 
 -- (i, j, k) is a place of an array, counted from its first one, in blocks of n cells with so many guard places at each end of each axis

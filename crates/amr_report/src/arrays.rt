@@ -5,13 +5,12 @@ ghost use Rattle.amr_report.specs.Arrays.{AreThere, IsSmall};
 ghost use Rattle.amr_report.specs.Printing.{Prints, with_words};
 ghost use Rattle.amr_num.specs.declared.Axis.{Axis};
 ghost use Rattle.amr_num.specs.declared.Axis.TheVariants as axis;
-ghost use Rattle.mesh_model.specs.Texts as texts;
+ghost use Rattle.mesh_model.specs.Run.Texts as texts;
 ghost use Rattle.std.specs.Prelude.{◌≡◌, ◌+◌, ◌*◌, ◌<◌, ◌≤◌, length};
 
 use crate::line::Line;
 use amr_num::{Axis, BlockAt};
-use mesh_model::script::Group;
-use mesh_model::{BlockValues, Var};
+use mesh_model::{BlockValues, Group, Var};
 use outside_io::Failed;
 use outside_io::sink::Sink;
 

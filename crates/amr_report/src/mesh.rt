@@ -5,8 +5,8 @@ ghost use Rattle.amr_report.specs.Nodes.{of_leaf};
 ghost use Rattle.amr_report.specs.Printing.{Prints};
 ghost use Rattle.block_tree.specs.GridOf.{grid_of};
 ghost use Rattle.block_tree.specs.Numbered.{IsNode};
-ghost use Rattle.mesh_model.specs.Plain.{Mesh};
-ghost use Rattle.mesh_model.specs.Texts.{leaf_text, mesh_text, size_text};
+ghost use Rattle.mesh_model.specs.Fields.Plain.{Mesh};
+ghost use Rattle.mesh_model.specs.Run.Texts.{leaf_text, mesh_text, size_text};
 ghost use Rattle.std.specs.Prelude.{◌≡◌, flat_map};
 
 use crate::line::Line;

@@ -1,15 +1,15 @@
 //! The blocks of the same level across the sides of a block.
 
-ghost use Rattle.mesh_model.specs.Coordinates as coordinates;
-ghost use Rattle.mesh_model.specs.Limits.{IsShape};
-ghost use Rattle.mesh_model.specs.Touch as touch;
-ghost use Rattle.mesh_model.specs.Tree as model;
-ghost use Rattle.mesh_model.specs.Valid.{InDomain};
+ghost use Rattle.mesh_model.specs.Geometry.Coordinates as coordinates;
+ghost use Rattle.mesh_model.specs.Geometry.Limits.{IsShape};
+ghost use Rattle.mesh_model.specs.Geometry.Touch as touch;
+ghost use Rattle.mesh_model.specs.Tree.Reported as model;
+ghost use Rattle.mesh_model.specs.Tree.ValidGrid.{InDomain};
 ghost use Rattle.std.specs.Prelude.{◌≡◌, suc, ◌<◌, ◌≤◌};
 
 use amr_num::{Axis, BlockAt};
 use mesh_model::Shape;
-use mesh_model::axes::{is_periodic, roots};
+use mesh_model::geometry::axes::{is_periodic, roots};
 
 /// How many blocks of a level stand side by side on an axis.
 fn blocks_along(shape: &Shape, axis: Axis, level: u32) -> u32

@@ -4,11 +4,11 @@ ghost use Rattle.amr_report.specs.Printing.{Prints, with_word};
 ghost use Rattle.amr_report.specs.Nodes as shown;
 ghost use Rattle.block_tree.specs.GridOf.{grid_of};
 ghost use Rattle.block_tree.specs.Numbered.{IsNode, block_at};
-ghost use Rattle.mesh_model.specs.Order.{nodes};
-ghost use Rattle.mesh_model.specs.Plain.{Mesh};
-ghost use Rattle.mesh_model.specs.Tree as model;
-ghost use Rattle.mesh_model.specs.TreeText.{nodes_text, tree_text};
-ghost use Rattle.mesh_model.specs.Valid.{InDomain};
+ghost use Rattle.mesh_model.specs.Tree.Order.{nodes};
+ghost use Rattle.mesh_model.specs.Fields.Plain.{Mesh};
+ghost use Rattle.mesh_model.specs.Tree.Reported as model;
+ghost use Rattle.mesh_model.specs.Run.TreeText.{nodes_text, tree_text};
+ghost use Rattle.mesh_model.specs.Tree.ValidGrid.{InDomain};
 ghost use Rattle.std.specs.Prelude.{◌≡◌, ◌+◌, ◌*◌, ◌<◌, ◌≤◌, length};
 
 use crate::line::Line;

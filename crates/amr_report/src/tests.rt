@@ -1,5 +1,5 @@
 ghost use Rattle.amr_num.specs.declared.Axis.TheVariants.{X, Y, Z};
-ghost use Rattle.mesh_model.specs.Limits.{IsShape};
+ghost use Rattle.mesh_model.specs.Geometry.Limits.{IsShape};
 ghost use Rattle.std.specs.Prelude.{◌≡◌, ◌<◌, ◌≤◌, ℤ};
 
 use crate::{
@@ -7,8 +7,7 @@ use crate::{
 };
 use amr_num::{Axis, SideKind};
 use block_tree::Tree;
-use mesh_model::script::Group;
-use mesh_model::{BlockValues, Shape, Var};
+use mesh_model::{BlockValues, Group, Shape, Var};
 use outside_io::Failed;
 use outside_io::memory_sink::MemSink;
 use std::alloc::{AllocError, Global};

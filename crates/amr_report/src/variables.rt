@@ -5,15 +5,16 @@ ghost use Rattle.amr_report.specs.Printing.{Prints};
 ghost use Rattle.amr_report.specs.Values.{HasGuardValues, HasInterior, HasViews, HasWhole};
 ghost use Rattle.block_tree.specs.GridOf.{grid_of};
 ghost use Rattle.block_tree.specs.Numbered.{IsNode, block_at};
-ghost use Rattle.mesh_model.specs.Order.{nodes};
-ghost use Rattle.mesh_model.specs.Plain.{Mesh, is_leaf_block};
-ghost use Rattle.mesh_model.specs.Texts.{group_name, guards_text, places, variable_text};
+ghost use Rattle.mesh_model.specs.Tree.Order.{nodes};
+ghost use Rattle.mesh_model.specs.Fields.Plain.{Mesh};
+ghost use Rattle.mesh_model.specs.Tree.Kinds.{is_leaf_block};
+ghost use Rattle.mesh_model.specs.Run.Texts.{group_name, guards_text, variable_text};
+ghost use Rattle.mesh_model.specs.Geometry.Places.{places};
 ghost use Rattle.std.specs.Prelude.{◌≡◌, ◌≤◌, flat_map, length, true};
 
 use crate::arrays::{Shown, print_group};
 use block_tree::Tree;
-use mesh_model::BlockValues;
-use mesh_model::script::Group;
+use mesh_model::{BlockValues, Group};
 use outside_io::Failed;
 use outside_io::sink::Sink;
 

@@ -2,10 +2,10 @@
 use Rattle.std.proofs.Common.{◌≡◌, ℕ, ◌<◌, true, false, Option, Some, None, MatchOption, is_some, refl, ap, ◌∙◌}
 use Rattle.std.specs.List.{list_any}
 use Rattle.amr_num.specs.declared.BlockAt.{BlockAt}
-use Rattle.mesh_model.specs.Blocks.{child_block, children}
-use Rattle.mesh_model.specs.Plain.{Grid, is_leaf_block}
-use Rattle.mesh_model.proofs.Closure.{in_children, from_children}
-use Rattle.mesh_model.proofs.Tests.{refuted, found, there}
+use Rattle.mesh_model.specs.Geometry.Blocks.{child_block, children}
+use Rattle.mesh_model.specs.Tree.Kinds.{Grid, is_leaf_block}
+use Rattle.mesh_model.proofs.FieldLemmas.Closure.{in_children, from_children}
+use Rattle.mesh_model.proofs.TreeLemmas.Tests.{refuted, found, there}
 use Rattle.block_tree.specs.Numbered.{IsNumberOf}
 use Rattle.block_tree.specs.Kinds.{kind_of}
 use Rattle.block_tree.specs.declared.tree.NodeKind.TheVariants.{Leaf, AboveLeaf, Inner}

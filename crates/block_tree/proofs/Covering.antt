@@ -8,16 +8,16 @@ use Rattle.amr_num.specs.declared.Axis.{Axis}
 use Rattle.amr_num.specs.declared.Axis.TheVariants.{X, Y, Z}
 use Rattle.amr_num.specs.declared.BlockAt.{BlockAt}
 use Rattle.amr_num.specs.declared.CellAt.{CellAt}
-use Rattle.mesh_model.specs.declared.Shape.{Shape}
-use Rattle.mesh_model.specs.Coordinates.{Inside, on, extent}
-use Rattle.mesh_model.specs.Order.{IsIn}
-use Rattle.mesh_model.specs.Plain.{Grid, block_of, is_leaf_block, is_split, is_split_block}
-use Rattle.mesh_model.specs.Valid.{LiesIn, InDomain, Valid}
-use Rattle.mesh_model.proofs.Beside.{block_in_domain}
-use Rattle.mesh_model.proofs.Levels.{home}
-use Rattle.mesh_model.proofs.ShapeLimits.{cells_some}
-use Rattle.mesh_model.proofs.Tests.{refuted}
-use Rattle.mesh_model.proofs.Tiling.{lies_trans, domain_up, leaf_says, leaf_shows, split_says}
+use Rattle.mesh_model.specs.declared.geometry.Shape.{Shape}
+use Rattle.mesh_model.specs.Geometry.Coordinates.{Inside, on, extent}
+use Rattle.mesh_model.specs.Tree.Order.{IsIn}
+use Rattle.mesh_model.specs.Tree.Kinds.{Grid, block_of, is_leaf_block, is_split, is_split_block}
+use Rattle.mesh_model.specs.Tree.ValidGrid.{LiesIn, InDomain, Valid}
+use Rattle.mesh_model.proofs.FieldLemmas.Beside.{block_in_domain}
+use Rattle.mesh_model.proofs.TreeLemmas.Levels.{home}
+use Rattle.mesh_model.proofs.GeometryLemmas.ShapeLimits.{cells_some}
+use Rattle.mesh_model.proofs.TreeLemmas.Tests.{refuted}
+use Rattle.mesh_model.proofs.TreeLemmas.Tiling.{lies_trans, domain_up, leaf_says, leaf_shows, split_says}
 use Rattle.block_tree.proofs.Leaves.{leaf_alone}
 use Rattle.block_tree.specs.Numbered.{IsNumberOf, IsLeafOver}
 

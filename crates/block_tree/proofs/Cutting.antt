@@ -5,7 +5,7 @@ use Rattle.std.specs.Cmp.{nat_cmp_is}
 use Rattle.std.specs.Ordering.{is_lt, nat_cmp}
 use Rattle.std.specs.declared.cmp.Ordering.TheVariants.{Less, Equal, Greater}
 use Rattle.amr_num.specs.declared.BlockAt.{BlockAt}
-use Rattle.mesh_model.specs.Order.{IsIn, Sorted, key}
+use Rattle.mesh_model.specs.Tree.Order.{IsIn, Sorted, key}
 use Rattle.block_tree.specs.Numbered.{block_in}
 use Rattle.block_tree.specs.Searching.{IsCut}
 use Rattle.block_tree.proofs.Members.{at_in, sorted_at}

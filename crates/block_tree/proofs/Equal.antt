@@ -1,7 +1,7 @@
 -- Tests of equal blocks.
 use Rattle.std.proofs.Common.{◌≡◌, Bool, true, ◌&&◌, ◌==◌, eqb-true, eq-eqb}
 use Rattle.amr_num.specs.declared.BlockAt.{BlockAt}
-use Rattle.mesh_model.proofs.Tests.{and_left, and_right, and_both}
+use Rattle.mesh_model.proofs.TreeLemmas.Tests.{and_left, and_right, and_both}
 
 -- as `==` computes it
 abbrev pub equal_test : BlockAt → BlockAt → Bool

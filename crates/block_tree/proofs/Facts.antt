@@ -6,13 +6,13 @@ use Rattle.std.proofs.Props.{props}
 use Rattle.std.proofs.lemmas.Bool.{cases_Bool}
 use Rattle.std.specs.List.{list_any}
 use Rattle.amr_num.specs.declared.BlockAt.{BlockAt}
-use Rattle.mesh_model.specs.declared.Shape.{Shape}
-use Rattle.mesh_model.specs.Limits.{IsShape}
-use Rattle.mesh_model.specs.Plain.{Grid, lies_in}
-use Rattle.mesh_model.specs.Order.{Sorted, nodes}
-use Rattle.mesh_model.specs.Valid.{InDomain, Tiles}
-use Rattle.mesh_model.proofs.Tests.{found, there}
-use Rattle.mesh_model.proofs.Tiling.{lies_says, lies_shows}
+use Rattle.mesh_model.specs.declared.geometry.Shape.{Shape}
+use Rattle.mesh_model.specs.Geometry.Limits.{IsShape}
+use Rattle.mesh_model.specs.Tree.Kinds.{Grid, lies_in}
+use Rattle.mesh_model.specs.Tree.Order.{Sorted, nodes}
+use Rattle.mesh_model.specs.Tree.ValidGrid.{InDomain, Tiles}
+use Rattle.mesh_model.proofs.TreeLemmas.Tests.{found, there}
+use Rattle.mesh_model.proofs.TreeLemmas.Tiling.{lies_says, lies_shows}
 use Rattle.block_tree.specs.declared.tree.Tree.{Tree}
 use Rattle.block_tree.specs.Listed.{lowest, grid_in, IsTree}
 

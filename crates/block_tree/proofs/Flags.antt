@@ -3,10 +3,10 @@ use Rattle.std.proofs.Common.{◌≡◌, ◌≢◌, ℕ, zero, suc, ◌+◌, ◌
 use Rattle.std.proofs.lemmas.Bool.{cases_Bool, cases_lt}
 use Rattle.std.specs.List.{list_any, range_with_len}
 use Rattle.amr_num.specs.declared.BlockAt.{BlockAt}
-use Rattle.mesh_model.specs.Order.{nodes, key}
-use Rattle.mesh_model.specs.Plain.{Grid}
-use Rattle.mesh_model.specs.Setting.{is_same_block}
-use Rattle.mesh_model.proofs.Tests.{refuted, and_left, and_right, and_both, or_left, or_right, either_true, all_four}
+use Rattle.mesh_model.specs.Tree.Order.{nodes, key}
+use Rattle.mesh_model.specs.Tree.Kinds.{Grid}
+use Rattle.mesh_model.specs.Geometry.Blocks.{is_same_block}
+use Rattle.mesh_model.proofs.TreeLemmas.Tests.{refuted, and_left, and_right, and_both, or_left, or_right, either_true, all_four}
 use Rattle.block_tree.specs.declared.tree.Tree.{Tree}
 use Rattle.block_tree.specs.GridOf.{grid_of}
 use Rattle.block_tree.specs.Numbered.{IsNode, block_at, blocks_of, flag_in}

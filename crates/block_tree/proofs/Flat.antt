@@ -1,16 +1,16 @@
 -- Trees of which all leaves have one level.
 use Rattle.std.proofs.Common.{◌≡◌, ℕ, zero, suc, ◌<◌, ◌≤◌, Bool, true, false, refl, sym, ap, ◌∙◌, subst, inl, inr, arith, List, ◌∷◌, length, replicate}
 use Rattle.amr_num.specs.declared.BlockAt.{BlockAt}
-use Rattle.mesh_model.specs.declared.Shape.{Shape}
-use Rattle.mesh_model.specs.Blocks.{child_block}
-use Rattle.mesh_model.specs.Order.{IsIn, nodes}
-use Rattle.mesh_model.specs.Plain.{Grid, is_leaf_block}
-use Rattle.mesh_model.specs.Regrid.{regrown}
-use Rattle.mesh_model.specs.Start.{start_grid}
-use Rattle.mesh_model.proofs.Nodes.{node_in}
-use Rattle.mesh_model.proofs.Regrown.{new_source}
-use Rattle.mesh_model.proofs.Roots.{start_root}
-use Rattle.mesh_model.proofs.Tiling.{leaf_says, same_level}
+use Rattle.mesh_model.specs.declared.geometry.Shape.{Shape}
+use Rattle.mesh_model.specs.Geometry.Blocks.{child_block}
+use Rattle.mesh_model.specs.Tree.Order.{IsIn, nodes}
+use Rattle.mesh_model.specs.Tree.Kinds.{Grid, is_leaf_block}
+use Rattle.mesh_model.specs.Tree.Regrown.{regrown}
+use Rattle.mesh_model.specs.Tree.Start.{start_grid}
+use Rattle.mesh_model.proofs.FieldLemmas.Nodes.{node_in}
+use Rattle.mesh_model.proofs.FieldLemmas.Regrown.{new_source}
+use Rattle.mesh_model.proofs.TreeLemmas.Roots.{start_root}
+use Rattle.mesh_model.proofs.TreeLemmas.Tiling.{leaf_says, same_level}
 use Rattle.block_tree.specs.declared.tree.Tree.{Tree}
 use Rattle.block_tree.specs.GridOf.{grid_of}
 use Rattle.block_tree.specs.Growing.{MayRegrow}

@@ -1,15 +1,17 @@
 -- Trees that are made of a grid's nodes.
 use Rattle.std.proofs.Common.{◌≡◌, refl, sym, ap, ◌∙◌, subst, inl, inr, arith, List, [], ◌∷◌, ◌++◌}
 use Rattle.amr_num.specs.declared.BlockAt.{BlockAt}
-use Rattle.mesh_model.specs.declared.Shape.{Shape}
-use Rattle.mesh_model.specs.VariableNames.{no_names}
-use Rattle.mesh_model.specs.Limits.{IsShape}
-use Rattle.mesh_model.specs.Order.{Sorted, begun_at, nodes}
-use Rattle.mesh_model.specs.Plain.{Grid}
-use Rattle.mesh_model.specs.Start.{start_grid, start_leaves, start_mesh}
-use Rattle.mesh_model.specs.Valid.{IsIn, Valid, ValidMesh, FewNodes}
-use Rattle.mesh_model.proofs.Roots.{start_root}
-use Rattle.mesh_model.proofs.Start.{start_mesh_valid}
+use Rattle.mesh_model.specs.declared.geometry.Shape.{Shape}
+use Rattle.mesh_model.specs.Fields.VariableNames.{no_names}
+use Rattle.mesh_model.specs.Geometry.Limits.{IsShape}
+use Rattle.mesh_model.specs.Tree.Order.{Sorted, begun_at, nodes, IsIn}
+use Rattle.mesh_model.specs.Tree.Kinds.{Grid}
+use Rattle.mesh_model.specs.Tree.Start.{start_grid, start_leaves}
+use Rattle.mesh_model.specs.Fields.Start.{start_mesh}
+use Rattle.mesh_model.specs.Tree.ValidGrid.{Valid, FewNodes}
+use Rattle.mesh_model.specs.Fields.Valid.{ValidMesh}
+use Rattle.mesh_model.proofs.TreeLemmas.Roots.{start_root}
+use Rattle.mesh_model.proofs.FieldLemmas.Start.{start_mesh_valid}
 use Rattle.block_tree.specs.Listed.{lowest, grid_in, IsTree}
 use Rattle.block_tree.proofs.Leaves.{lowest_nodes}
 

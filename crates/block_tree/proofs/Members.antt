@@ -4,7 +4,7 @@ use Rattle.std.specs.Prelude.{flat_map}
 use Rattle.std.proofs.lemmas.Bool.{cases_lt}
 use Rattle.std.proofs.lemmas.List.Elements.{filter-append}
 use Rattle.amr_num.specs.declared.BlockAt.{BlockAt}
-use Rattle.mesh_model.specs.Order.{IsIn, Sorted, key}
+use Rattle.mesh_model.specs.Tree.Order.{IsIn, Sorted, key}
 use Rattle.block_tree.specs.Numbered.{block_in}
 
 -- ---- places

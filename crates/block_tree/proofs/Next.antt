@@ -3,14 +3,15 @@ use Rattle.std.proofs.Common.{◌≡◌, ℕ, suc, ◌+◌, ◌*◌, ◌^◌, �
 use Rattle.std.proofs.Math.Nat.{mul-le-mul_right}
 use Rattle.std.proofs.lemmas.Bool.{cases_lt}
 use Rattle.amr_num.specs.declared.BlockAt.{BlockAt}
-use Rattle.mesh_model.specs.declared.Shape.{Shape}
-use Rattle.mesh_model.specs.Blocks.{child_block}
-use Rattle.mesh_model.specs.Limits.{IsShape}
-use Rattle.mesh_model.specs.Order.{IsIn, Sorted, key, nodes}
-use Rattle.mesh_model.specs.Plain.{Grid, Mesh, is_leaf_block, is_split_block}
-use Rattle.mesh_model.specs.Valid.{InDomain, Valid, FewNodes}
-use Rattle.mesh_model.proofs.Nodes.{nodes_sorted}
-use Rattle.mesh_model.proofs.Sorting.{morton_child}
+use Rattle.mesh_model.specs.declared.geometry.Shape.{Shape}
+use Rattle.mesh_model.specs.Geometry.Blocks.{child_block}
+use Rattle.mesh_model.specs.Geometry.Limits.{IsShape}
+use Rattle.mesh_model.specs.Tree.Order.{IsIn, Sorted, key, nodes}
+use Rattle.mesh_model.specs.Tree.Kinds.{Grid, is_leaf_block, is_split_block}
+use Rattle.mesh_model.specs.Fields.Plain.{Mesh}
+use Rattle.mesh_model.specs.Tree.ValidGrid.{InDomain, Valid, FewNodes}
+use Rattle.mesh_model.proofs.FieldLemmas.Nodes.{nodes_sorted}
+use Rattle.mesh_model.proofs.FieldLemmas.Sorting.{morton_child}
 use Rattle.morton_key.specs.Keyed.{HasKey}
 use Rattle.block_tree.specs.Numbered.{block_in}
 use Rattle.block_tree.proofs.Members.{in_at, at_in, sorted_at, before_at}

@@ -3,14 +3,14 @@ use Rattle.std.proofs.Common.{◌≡◌, ℕ, ◌+◌, ◌<◌, ◌≤◌, ◌==
 use Rattle.std.proofs.lemmas.Bool.{cases_Bool}
 use Rattle.std.proofs.lemmas.List.{get_or_read}
 use Rattle.amr_num.specs.declared.BlockAt.{BlockAt}
-use Rattle.mesh_model.specs.declared.Shape.{Shape}
-use Rattle.mesh_model.specs.Blocks.{child_block, parent_block}
-use Rattle.mesh_model.specs.Limits.{most_nodes}
-use Rattle.mesh_model.specs.Order.{IsIn, Sorted, nodes}
-use Rattle.mesh_model.specs.Plain.{is_leaf_block, is_split_block}
-use Rattle.mesh_model.specs.Valid.{InDomain}
-use Rattle.mesh_model.proofs.Tests.{refuted}
-use Rattle.mesh_model.proofs.Tiling.{leaf_says}
+use Rattle.mesh_model.specs.declared.geometry.Shape.{Shape}
+use Rattle.mesh_model.specs.Geometry.Blocks.{child_block, parent_block}
+use Rattle.mesh_model.specs.Geometry.Limits.{most_nodes}
+use Rattle.mesh_model.specs.Tree.Order.{IsIn, Sorted, nodes}
+use Rattle.mesh_model.specs.Tree.Kinds.{is_leaf_block, is_split_block}
+use Rattle.mesh_model.specs.Tree.ValidGrid.{InDomain}
+use Rattle.mesh_model.proofs.TreeLemmas.Tests.{refuted}
+use Rattle.mesh_model.proofs.TreeLemmas.Tiling.{leaf_says}
 use Rattle.morton_key.specs.Keyed.{HasKey}
 use Rattle.block_tree.specs.declared.tree.Tree.{Tree}
 use Rattle.block_tree.specs.GridOf.{grid_of}

@@ -1,10 +1,10 @@
 -- The roots of the domain.
 use Rattle.std.proofs.Common.{◌≡◌, ℕ, ◌<◌, ap, arith, [], ◌∷◌, if◌then◌else◌, lt-ltb, ltb-true}
 use Rattle.std.specs.Prelude.{nat_lt, ◌&&◌}
-use Rattle.mesh_model.specs.declared.Shape.{Shape}
-use Rattle.mesh_model.specs.Start.{root_at, is_root, root_there}
-use Rattle.mesh_model.specs.Valid.{InDomain}
-use Rattle.mesh_model.proofs.Tests.{refuted, all_three, and_both}
+use Rattle.mesh_model.specs.declared.geometry.Shape.{Shape}
+use Rattle.mesh_model.specs.Tree.Start.{root_at, is_root, root_there}
+use Rattle.mesh_model.specs.Tree.ValidGrid.{InDomain}
+use Rattle.mesh_model.proofs.TreeLemmas.Tests.{refuted, all_three, and_both}
 
 module _ (s : Shape) (m : ℕ) where
   pub root_stands : InDomain s (root_at m) → root_there s (root_at m) ≡ root_at m ∷ []

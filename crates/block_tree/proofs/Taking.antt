@@ -2,7 +2,7 @@
 use Rattle.std.proofs.Common.{◌≡◌, ℕ, ◌<◌, Bool, false, ◌&&◌, sym, ap, ◌∙◌, lt-ltb}
 use Rattle.std.specs.Prelude.{nat_lt}
 use Rattle.amr_num.specs.declared.BlockAt.{BlockAt}
-use Rattle.mesh_model.specs.Blocks.{parent_block}
+use Rattle.mesh_model.specs.Geometry.Blocks.{parent_block}
 use Rattle.block_tree.specs.declared.tree.Tree.{Tree}
 use Rattle.block_tree.specs.GridOf.{grid_of}
 use Rattle.block_tree.specs.Numbered.{IsNumberOf, blocks_of}

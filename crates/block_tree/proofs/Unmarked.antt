@@ -1,8 +1,8 @@
 -- Marks of which none stands.
 use Rattle.std.proofs.Common.{◌≡◌, ℕ, ◌≤◌, false, length, ap, ◌∙◌, sym, subst, List, Bool, replicate}
 use Rattle.std.proofs.Math.ListN.{length-replicate}
-use Rattle.mesh_model.specs.Order.{nodes}
-use Rattle.mesh_model.specs.Plain.{Grid}
+use Rattle.mesh_model.specs.Tree.Order.{nodes}
+use Rattle.mesh_model.specs.Tree.Kinds.{Grid}
 use Rattle.block_tree.specs.declared.marks.Marks.{Marks}
 use Rattle.block_tree.specs.Marked.{IsMarksOf, IsUnmarked, refine_at, derefine_at}
 use Rattle.block_tree.specs.Numbered.{flag_in}

@@ -1,5 +1,5 @@
 -- The grid for which a tree stands. Its nodes are `nodes (grid_of tree).leaves`.
-use Rattle.mesh_model.specs.Plain.{Grid}
+use Rattle.mesh_model.specs.Tree.Kinds.{Grid}
 use Rattle.block_tree.specs.declared.tree.Tree.{Tree}
 use Rattle.block_tree.specs.Listed.{grid_in}
 

@@ -1,12 +1,12 @@
 -- Trees that are refined and merged.
 use Rattle.std.specs.Prelude.{◌≡◌, ℕ, ◌<◌, Bool, true, false, List, length}
 use Rattle.amr_num.specs.declared.BlockAt.{BlockAt}
-use Rattle.mesh_model.specs.Blocks.{child_block}
-use Rattle.mesh_model.specs.Limits.{most_nodes}
-use Rattle.mesh_model.specs.Order.{nodes}
-use Rattle.mesh_model.specs.Plain.{Grid}
-use Rattle.mesh_model.specs.Regrid.{regrown}
-use Rattle.mesh_model.specs.Valid.{IsIn, LevelRule}
+use Rattle.mesh_model.specs.Geometry.Blocks.{child_block}
+use Rattle.mesh_model.specs.Geometry.Limits.{most_nodes}
+use Rattle.mesh_model.specs.Tree.Order.{nodes, IsIn}
+use Rattle.mesh_model.specs.Tree.Kinds.{Grid}
+use Rattle.mesh_model.specs.Tree.Regrown.{regrown}
+use Rattle.mesh_model.specs.Tree.ValidGrid.{LevelRule}
 use Rattle.block_tree.specs.declared.tree.GrowStop.{GrowStop}
 use Rattle.block_tree.specs.Numbered.{blocks_of, flag_in}
 use Rattle.block_tree.specs.declared.tree.GrowStop.TheVariants.{Blocks, OutOfMemory}

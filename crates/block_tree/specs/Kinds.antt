@@ -2,8 +2,8 @@
 use Rattle.std.specs.Prelude.{if◌then◌else◌}
 use Rattle.std.specs.List.{list_any}
 use Rattle.amr_num.specs.declared.BlockAt.{BlockAt}
-use Rattle.mesh_model.specs.Plain.{Grid, is_leaf_block}
-use Rattle.mesh_model.specs.Blocks.{children}
+use Rattle.mesh_model.specs.Tree.Kinds.{Grid, is_leaf_block}
+use Rattle.mesh_model.specs.Geometry.Blocks.{children}
 use Rattle.block_tree.specs.declared.tree.NodeKind.{NodeKind}
 use Rattle.block_tree.specs.declared.tree.NodeKind.TheVariants.{Leaf, AboveLeaf, Inner}
 

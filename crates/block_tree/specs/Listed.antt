@@ -2,10 +2,10 @@
 use Rattle.std.specs.Prelude.{◌≡◌, Bool, not, ◌&&◌, nat_lt, List, filter}
 use Rattle.std.specs.List.{list_any}
 use Rattle.amr_num.specs.declared.BlockAt.{BlockAt}
-use Rattle.mesh_model.specs.declared.Shape.{Shape}
-use Rattle.mesh_model.specs.Plain.{Grid, lies_in}
-use Rattle.mesh_model.specs.Order.{Sorted, nodes}
-use Rattle.mesh_model.specs.Valid.{Valid, FewNodes}
+use Rattle.mesh_model.specs.declared.geometry.Shape.{Shape}
+use Rattle.mesh_model.specs.Tree.Kinds.{Grid, lies_in}
+use Rattle.mesh_model.specs.Tree.Order.{Sorted, nodes}
+use Rattle.mesh_model.specs.Tree.ValidGrid.{Valid, FewNodes}
 
 -- some finer node lies in b
 unfoldable pub is_above : List BlockAt → BlockAt → Bool

@@ -1,9 +1,8 @@
 -- Marks on leaves.
 use Rattle.std.specs.Prelude.{◌≡◌, ℕ, ◌<◌, ◌≤◌, Bool, true, false, length}
 use Rattle.amr_num.specs.declared.BlockAt.{BlockAt}
-use Rattle.mesh_model.specs.Order.{nodes}
-use Rattle.mesh_model.specs.Plain.{Grid}
-use Rattle.mesh_model.specs.Valid.{IsIn}
+use Rattle.mesh_model.specs.Tree.Order.{nodes, IsIn}
+use Rattle.mesh_model.specs.Tree.Kinds.{Grid}
 use Rattle.block_tree.specs.declared.marks.Marks.{Marks}
 use Rattle.block_tree.specs.Numbered.{flag_in, blocks_of}
 

@@ -3,10 +3,10 @@ use Rattle.std.specs.Prelude.{◌≡◌, ℕ, ◌<◌, Bool, true, false, ◌&&�
 use Rattle.std.specs.List.{list_any, range_with_len}
 use Rattle.amr_num.specs.declared.BlockAt.{BlockAt}
 use Rattle.amr_num.specs.declared.CellAt.{CellAt}
-use Rattle.mesh_model.specs.Plain.{Grid, block_of, is_leaf_block}
-use Rattle.mesh_model.specs.Order.{nodes}
-use Rattle.mesh_model.specs.Setting.{is_same_block}
-use Rattle.mesh_model.specs.Valid.{LiesIn}
+use Rattle.mesh_model.specs.Tree.Kinds.{Grid, block_of, is_leaf_block}
+use Rattle.mesh_model.specs.Tree.Order.{nodes}
+use Rattle.mesh_model.specs.Geometry.Blocks.{is_same_block}
+use Rattle.mesh_model.specs.Tree.ValidGrid.{LiesIn}
 
 -- there is a node with this number
 abbrev pub IsNode : Grid → ℕ → Type 0

@@ -1,7 +1,7 @@
 -- The nodes in a node's place after refining and merging.
 use Rattle.std.specs.Prelude.{Bool, ◌&&◌, nat_lt, if◌then◌else◌, List, [], ◌∷◌}
 use Rattle.amr_num.specs.declared.BlockAt.{BlockAt}
-use Rattle.mesh_model.specs.Blocks.{parent_block, children}
+use Rattle.mesh_model.specs.Geometry.Blocks.{parent_block, children}
 
 -- a block is a child of a merged parent
 unfoldable pub is_taken_back : (BlockAt → Bool) → BlockAt → Bool

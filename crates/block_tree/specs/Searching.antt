@@ -1,7 +1,7 @@
 -- Places in a list of blocks.
 use Rattle.std.specs.Prelude.{ℕ, ◌<◌, ◌≤◌, List, length}
 use Rattle.amr_num.specs.declared.BlockAt.{BlockAt}
-use Rattle.mesh_model.specs.Order.{key}
+use Rattle.mesh_model.specs.Tree.Order.{key}
 use Rattle.block_tree.specs.Numbered.{block_in}
 
 -- the blocks before one place have keys below k, and those from another on have not

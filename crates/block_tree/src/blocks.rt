@@ -1,11 +1,11 @@
 //! Blocks by coordinates.
 
 ghost use Rattle.std.specs.Prelude.{◌≡◌, ◌+◌, ◌-◌, ◌*◌, ◌/◌, ◌^◌, ◌<◌, ◌≤◌, ◌↔◌, IsTrue};
-ghost use Rattle.mesh_model.specs.Blocks as model;
-ghost use Rattle.mesh_model.specs.Limits.{IsShape};
-ghost use Rattle.mesh_model.specs.Limits as limits;
-ghost use Rattle.mesh_model.specs.Start as start;
-ghost use Rattle.mesh_model.specs.Valid.{InDomain};
+ghost use Rattle.mesh_model.specs.Geometry.Blocks as model;
+ghost use Rattle.mesh_model.specs.Geometry.Limits.{IsShape};
+ghost use Rattle.mesh_model.specs.Geometry.Limits as limits;
+ghost use Rattle.mesh_model.specs.Tree.Start as start;
+ghost use Rattle.mesh_model.specs.Tree.ValidGrid.{InDomain};
 ghost use Rattle.morton_key.specs.Keyed.{HasKey};
 
 use amr_num::{BlockAt, CellAt};

@@ -38,10 +38,10 @@ impl Marks {
     ghost use Rattle.block_tree.specs.GridOf.{grid_of};
     ghost use Rattle.block_tree.specs.Marked.{IsMarksOf, IsUnmarked, derefine_at, derefine_of, refine_at, refine_of, room};
     ghost use Rattle.block_tree.specs.Numbered.{IsNode, block_at};
-    ghost use Rattle.mesh_model.specs.Limits as limits;
-    ghost use Rattle.mesh_model.specs.Order.{nodes};
-    ghost use Rattle.mesh_model.specs.Plain.{is_leaf_block};
-    ghost use Rattle.mesh_model.specs.Setting.{is_same_block};
+    ghost use Rattle.mesh_model.specs.Geometry.Limits as limits;
+    ghost use Rattle.mesh_model.specs.Tree.Order.{nodes};
+    ghost use Rattle.mesh_model.specs.Tree.Kinds.{is_leaf_block};
+    ghost use Rattle.mesh_model.specs.Geometry.Blocks.{is_same_block};
     ghost use Rattle.std.specs.Prelude.{◌≡◌, ◌<◌, ◌≤◌, IfOk, if◌then◌else◌, length, true};
 
     /// No mark, with room for as many nodes as a tree of this shape may have.

@@ -1,12 +1,11 @@
 //! Lists of nodes: the roots, and what stands in the place of a node after refining and merging.
 
-ghost use Rattle.std.specs.Prelude.{◌≡◌, ◌<◌, ◌++◌, IfOk, OnOk, length};
+ghost use Rattle.std.specs.Prelude.{◌≡◌, ◌<◌, ◌++◌, IfOk, OnOk, length, [], ◌∷◌, true};
 ghost use Rattle.block_tree.specs.Places as places;
-ghost use Rattle.mesh_model.specs.Blocks.{children};
-ghost use Rattle.mesh_model.specs.Limits.{IsShape};
-ghost use Rattle.mesh_model.specs.Start.{start_leaves};
+ghost use Rattle.mesh_model.specs.Geometry.Blocks.{children};
+ghost use Rattle.mesh_model.specs.Geometry.Limits.{IsShape};
+ghost use Rattle.mesh_model.specs.Tree.Start.{start_leaves};
 ghost use Rattle.morton_key.specs.Keyed.{HasKey};
-ghost use Rattle.std.specs.Prelude.{[], ◌∷◌, true};
 
 use crate::blocks::{child_block, is_in_domain, root_at};
 use amr_num::{BlockAt, OutOfMemory};

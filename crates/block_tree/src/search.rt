@@ -4,7 +4,7 @@ ghost use Rattle.std.specs.Prelude.{◌≡◌, ℕ, ◌<◌, ◌≤◌, length, 
 ghost use Rattle.amr_num.specs.declared.BlockAt.{BlockAt};
 ghost use Rattle.block_tree.specs.Numbered.{block_in};
 ghost use Rattle.block_tree.specs.Searching.{IsCut};
-ghost use Rattle.mesh_model.specs.Order.{IsIn, Sorted};
+ghost use Rattle.mesh_model.specs.Tree.Order.{IsIn, Sorted};
 ghost use Rattle.morton_key.specs.Keyed.{HasKey};
 
 use amr_num::BlockAt;

@@ -2,8 +2,8 @@
 
 ghost use Rattle.block_tree.specs.GridOf.{grid_of};
 ghost use Rattle.block_tree.specs.Numbered.{IsNode, block_at, flag_in};
-ghost use Rattle.mesh_model.specs.Order.{nodes};
-ghost use Rattle.mesh_model.specs.Plain.{is_leaf_block};
+ghost use Rattle.mesh_model.specs.Tree.Order.{nodes};
+ghost use Rattle.mesh_model.specs.Tree.Kinds.{is_leaf_block};
 ghost use Rattle.std.specs.Prelude.{◌≡◌, ℕ, IfOk, length, replicate, true};
 
 use super::*;

@@ -42,14 +42,14 @@ impl Tree {
     ghost use Rattle.block_tree.specs.Places.{is_taken_back};
     ghost use Rattle.block_tree.specs.Kinds.{kind_of};
     ghost use Rattle.block_tree.specs.Numbered.{IsLeafOver, IsNode, IsNumberOf, block_at, blocks_of, flag_in};
-    ghost use Rattle.mesh_model.specs.Blocks as model;
-    ghost use Rattle.mesh_model.specs.Coordinates.{Inside};
-    ghost use Rattle.mesh_model.specs.Limits as limits;
-    ghost use Rattle.mesh_model.specs.Limits.{IsShape};
-    ghost use Rattle.mesh_model.specs.Order.{IsIn, nodes};
-    ghost use Rattle.mesh_model.specs.Plain.{block_of, is_leaf_block, is_split};
-    ghost use Rattle.mesh_model.specs.Start.{start_grid};
-    ghost use Rattle.mesh_model.specs.Valid.{FewNodes, InDomain, LiesIn};
+    ghost use Rattle.mesh_model.specs.Geometry.Blocks as model;
+    ghost use Rattle.mesh_model.specs.Geometry.Coordinates.{Inside};
+    ghost use Rattle.mesh_model.specs.Geometry.Limits as limits;
+    ghost use Rattle.mesh_model.specs.Geometry.Limits.{IsShape};
+    ghost use Rattle.mesh_model.specs.Tree.Order.{IsIn, nodes};
+    ghost use Rattle.mesh_model.specs.Tree.Kinds.{block_of, is_leaf_block, is_split};
+    ghost use Rattle.mesh_model.specs.Tree.Start.{start_grid};
+    ghost use Rattle.mesh_model.specs.Tree.ValidGrid.{FewNodes, InDomain, LiesIn};
     ghost use Rattle.std.specs.Prelude.{◌≡◌, ◌*◌, ◌<◌, ◌≤◌, ◌⊎◌};
     ghost use Rattle.std.specs.Prelude.{IfErr, IfNone, IfOk, IfSome, MatchOption, OnOk, OnSome, false, true, length};
 

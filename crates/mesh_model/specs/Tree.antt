@@ -1,73 +1,8 @@
--- The tree as its nodes are reported: numbers, kinds and neighbours, read from the leaves.
-use Rattle.std.specs.Prelude.{ℕ, suc, ◌*◌, ◌^◌, Bool, ◌==◌, if◌then◌else◌, ℤ, pos, negsuc, List, [], ◌∷◌, Option, Some, None}
-use Rattle.std.specs.List.{list_any}
-use Rattle.std.specs.Option.{option_map}
-use Rattle.amr_num.specs.declared.Axis.{Axis}
-use Rattle.amr_num.specs.declared.Axis.TheVariants.{X, Y, Z}
-use Rattle.amr_num.specs.declared.BlockAt.{BlockAt}
-use Rattle.mesh_model.specs.declared.Shape.{Shape}
-use Rattle.mesh_model.specs.Blocks.{children, parent_block}
-use Rattle.mesh_model.specs.Coordinates.{above, below, is_periodic, roots}
-use Rattle.mesh_model.specs.Order.{nodes}
-use Rattle.mesh_model.specs.Plain.{Grid, is_leaf_block}
-use Rattle.mesh_model.specs.Setting.{is_same_block}
-use Rattle.mesh_model.specs.Touch.{place}
-
--- the place of a block in a list of blocks, from 0
-abbrev pub place_in : BlockAt → List BlockAt → Option ℕ
-place_in b [] = None
-place_in b (c ∷ cs) = if is_same_block c b then Some 0 else option_map suc (place_in b cs)
-
--- the number of a node: its place in Morton order
-abbrev pub number_of : Grid → BlockAt → Option ℕ
-number_of g b = place_in b (nodes g.leaves)
-
--- the block above a node, which a root has not
-abbrev pub block_above : BlockAt → Option BlockAt
-block_above b = if b.level == 0 then None else Some (parent_block b)
-
--- b with another coordinate on an axis
-abbrev pub with_place : Axis → ℕ → BlockAt → BlockAt
-with_place X p b = record { level = b.level; x = p; y = b.y; z = b.z }
-with_place Y p b = record { level = b.level; x = b.x; y = p; z = b.z }
-with_place Z p b = record { level = b.level; x = b.x; y = b.y; z = p }
-
--- how many blocks of a level stand side by side on an axis
-abbrev pub blocks_along : Shape → Axis → ℕ → ℕ
-blocks_along s a l = roots s a * 2 ^ l
-
--- the block of the same level across a block's low and its high side on an axis, where that is no outer boundary
-abbrev pub low_neighbour : Shape → Axis → BlockAt → Option BlockAt
-low_neighbour s a b = option_map (λ p. with_place a p b) (below (is_periodic s a) (blocks_along s a b.level) (place a b))
-
-abbrev pub high_neighbour : Shape → Axis → BlockAt → Option BlockAt
-high_neighbour s a b = option_map (λ p. with_place a p b) (above (is_periodic s a) (blocks_along s a b.level) (suc (place a b)))
-
--- a parent of at least one leaf
-abbrev pub is_above_leaf : Grid → BlockAt → Bool
-is_above_leaf g b = list_any (is_leaf_block g) (children b)
-
--- the type of a node as it is reported: 1 a leaf, 2 a parent of at least one leaf, 3 any other
-abbrev pub type_of : Grid → BlockAt → ℕ
-type_of g b = if is_leaf_block g b then 1 else (if is_above_leaf g b then 2 else 3)
-
--- a node's number as it is reported: -1 where there is no such node
-abbrev pub reported : Option ℕ → ℤ
-reported None = negsuc 0
-reported (Some number) = pos number
-
--- the number of the parent, -1 for a root
-abbrev pub parent_reported : Grid → BlockAt → ℤ
-parent_reported g b = elim (block_above b) [ Some p ↦ reported (number_of g p) | None ↦ negsuc 0 ]
-
--- what is reported of the neighbour across a side: its number, -1 where it is no node, -20 at an outer boundary
-abbrev pub across : Grid → Option BlockAt → ℤ
-across g None = negsuc 19
-across g (Some b) = reported (number_of g b)
-
--- what is reported across the six sides
-abbrev pub all_across : Grid → BlockAt → List ℤ
-all_across g b =
-    across g (low_neighbour g.shape X b) ∷ across g (high_neighbour g.shape X b)
-    ∷ across g (low_neighbour g.shape Y b) ∷ across g (high_neighbour g.shape Y b)
-    ∷ across g (low_neighbour g.shape Z b) ∷ across g (high_neighbour g.shape Z b) ∷ []
+-- Grids, that is sets of leaves: kinds, order, validity, closure and growth.
+pub mod Order
+pub mod Closure
+pub mod Reported
+pub mod Kinds
+pub mod ValidGrid
+pub mod Regrown
+pub mod Start

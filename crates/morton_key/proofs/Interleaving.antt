@@ -1,7 +1,7 @@
 -- Interleaved numbers by their bits set apart, and back from them.
 use Rattle.std.proofs.Common.{◌≡◌, ℕ, zero, suc, ◌+◌, ◌*◌, ◌/◌, ◌%◌, ◌^◌, ◌<◌, ap, ◌∙◌, refl, arith}
 use Rattle.amr_num.specs.MortonKey.{interleave}
-use Rattle.mesh_model.proofs.Morton.{step}
+use Rattle.mesh_model.proofs.TreeLemmas.Morton.{step}
 use Rattle.morton_key.specs.Bits.{respaced}
 
 none : (x y z : ℕ) → interleave zero x y z ≡ 0

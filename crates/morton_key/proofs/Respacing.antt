@@ -4,7 +4,7 @@ use Rattle.std.proofs.Math.Pow.{pow-add}
 use Rattle.std.proofs.lemmas.Nat.{pow_pos, shr_split, shl_below, mod_below, or_shifted, or_block, or_shr, or_mod, and_block, and_le_r}
 use Rattle.std.proofs.lemmas.Nat.Bits.{bit_at_and, bit_at_or, same_from_bits}
 use Rattle.std.proofs.lemmas.Bool.{cases_lt}
-use Rattle.mesh_model.proofs.Tests.{and_left, and_right}
+use Rattle.mesh_model.proofs.TreeLemmas.Tests.{and_left, and_right}
 use Rattle.morton_key.specs.Bits.{respaced}
 
 -- ---- masks and shifts of two numbers joined by or

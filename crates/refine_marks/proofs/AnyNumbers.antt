@@ -2,14 +2,15 @@
 use Rattle.std.proofs.Common.{◌≡◌, ℕ, zero, suc, ◌-◌, Bool, true, false, not, ◌&&◌, ◌||◌, ◌==◌, nat_lt, pos, refl, sym, ap, ◌∙◌, subst}
 use Rattle.std.specs.List.{list_any, list_all}
 use Rattle.amr_num.specs.declared.BlockAt.{BlockAt}
-use Rattle.mesh_model.specs.Blocks.{child_block, children, parent_block}
-use Rattle.mesh_model.specs.Closure.{refined, is_refined, is_ready, is_blocked, merged, is_merged}
-use Rattle.mesh_model.specs.Laws.{MayRefine, MayMerge}
-use Rattle.mesh_model.specs.Plain.{Grid, Mesh, is_leaf_block}
-use Rattle.mesh_model.specs.Regrid.{new_grid, regrown}
-use Rattle.mesh_model.specs.Touch.{touches}
-use Rattle.mesh_model.specs.Valid.{LevelRule}
-use Rattle.mesh_model.specs.VariableNames.{no_names}
+use Rattle.mesh_model.specs.Geometry.Blocks.{child_block, children, parent_block}
+use Rattle.mesh_model.specs.Tree.Closure.{refined, is_refined, is_ready, is_blocked, merged, is_merged}
+use Rattle.mesh_model.specs.Fields.Laws.{MayRefine, MayMerge}
+use Rattle.mesh_model.specs.Tree.Kinds.{Grid, is_leaf_block}
+use Rattle.mesh_model.specs.Fields.Plain.{Mesh}
+use Rattle.mesh_model.specs.Tree.Regrown.{new_grid, regrown}
+use Rattle.mesh_model.specs.Geometry.Touch.{touches}
+use Rattle.mesh_model.specs.Tree.ValidGrid.{LevelRule}
+use Rattle.mesh_model.specs.Fields.VariableNames.{no_names}
 use Rattle.block_tree.specs.declared.marks.Marks.{Marks}
 use Rattle.block_tree.specs.declared.tree.Tree.{Tree}
 use Rattle.block_tree.specs.GridOf.{grid_of}

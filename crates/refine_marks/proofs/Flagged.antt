@@ -4,13 +4,13 @@ use Rattle.std.proofs.Math.Seq.{take-append_seam}
 use Rattle.std.proofs.lemmas.Bool.{cases_lt}
 use Rattle.std.proofs.lemmas.List.{get_or-set_same, get_or-set_other}
 use Rattle.amr_num.specs.declared.BlockAt.{BlockAt}
-use Rattle.mesh_model.specs.Order.{IsIn, nodes}
-use Rattle.mesh_model.specs.Plain.{Grid, is_leaf_block}
-use Rattle.mesh_model.specs.Touch.{touches}
-use Rattle.mesh_model.specs.Valid.{Valid}
-use Rattle.mesh_model.proofs.Nodes.{in_node}
-use Rattle.mesh_model.proofs.Tests.{all_three, all_four, found, there, refuted}
-use Rattle.mesh_model.proofs.Tiling.{leaf_says, leaf_shows, lies_refl}
+use Rattle.mesh_model.specs.Tree.Order.{IsIn, nodes}
+use Rattle.mesh_model.specs.Tree.Kinds.{Grid, is_leaf_block}
+use Rattle.mesh_model.specs.Geometry.Touch.{touches}
+use Rattle.mesh_model.specs.Tree.ValidGrid.{Valid}
+use Rattle.mesh_model.proofs.FieldLemmas.Nodes.{in_node}
+use Rattle.mesh_model.proofs.TreeLemmas.Tests.{all_three, all_four, found, there, refuted}
+use Rattle.mesh_model.proofs.TreeLemmas.Tiling.{leaf_says, leaf_shows, lies_refl}
 use Rattle.block_tree.specs.Numbered.{IsNode, block_at, flag_in}
 use Rattle.block_tree.proofs.Members.{at_in}
 use Rattle.refine_marks.specs.Flags.{AreFlagsAt, AreFlagsOf, touches_any}

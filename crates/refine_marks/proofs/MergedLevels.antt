@@ -3,17 +3,19 @@ use Rattle.std.proofs.Common.{◌≡◌, ℕ, suc, ◌-◌, ◌<◌, ◌≤◌, 
 use Rattle.std.proofs.lemmas.Bool.{cases_lt}
 use Rattle.std.specs.List.{list_any, list_all}
 use Rattle.amr_num.specs.declared.BlockAt.{BlockAt}
-use Rattle.mesh_model.specs.Blocks.{child_block, children, parent_block}
-use Rattle.mesh_model.specs.Closure.{is_refined, is_ready, is_blocked, merged, is_merged}
-use Rattle.mesh_model.specs.Order.{IsIn}
-use Rattle.mesh_model.specs.Plain.{Grid, Mesh, is_leaf_block}
-use Rattle.mesh_model.specs.Touch.{touches}
-use Rattle.mesh_model.specs.Valid.{Valid, ValidMesh}
-use Rattle.mesh_model.proofs.Closure.{from_children}
-use Rattle.mesh_model.proofs.Levels.{is_child}
-use Rattle.mesh_model.proofs.Ruled.{merged_may}
-use Rattle.mesh_model.proofs.Tests.{and_left, for_all, or_right, refuted}
-use Rattle.mesh_model.proofs.Tiling.{child_in, leaf_says}
+use Rattle.mesh_model.specs.Geometry.Blocks.{child_block, children, parent_block}
+use Rattle.mesh_model.specs.Tree.Closure.{is_refined, is_ready, is_blocked, merged, is_merged}
+use Rattle.mesh_model.specs.Tree.Order.{IsIn}
+use Rattle.mesh_model.specs.Tree.Kinds.{Grid, is_leaf_block}
+use Rattle.mesh_model.specs.Fields.Plain.{Mesh}
+use Rattle.mesh_model.specs.Geometry.Touch.{touches}
+use Rattle.mesh_model.specs.Tree.ValidGrid.{Valid}
+use Rattle.mesh_model.specs.Fields.Valid.{ValidMesh}
+use Rattle.mesh_model.proofs.FieldLemmas.Closure.{from_children}
+use Rattle.mesh_model.proofs.TreeLemmas.Levels.{is_child}
+use Rattle.mesh_model.proofs.FieldLemmas.Ruled.{merged_may}
+use Rattle.mesh_model.proofs.TreeLemmas.Tests.{and_left, for_all, or_right, refuted}
+use Rattle.mesh_model.proofs.TreeLemmas.Tiling.{child_in, leaf_says}
 use Rattle.block_tree.proofs.Leaves.{leaf_whole}
 use Rattle.block_tree.specs.declared.marks.Marks.{Marks}
 use Rattle.block_tree.specs.Marked.{derefine_at}

@@ -1,17 +1,18 @@
 -- What flags of the refined leaves and of the merged parents say.
 use Rattle.std.proofs.Common.{◌≡◌, Bool, true, sym, subst, arith, List}
 use Rattle.amr_num.specs.declared.BlockAt.{BlockAt}
-use Rattle.mesh_model.specs.Closure.{is_refined, is_merged}
-use Rattle.mesh_model.specs.Order.{IsIn, nodes}
-use Rattle.mesh_model.specs.Plain.{Grid, Mesh}
-use Rattle.mesh_model.specs.Regrid.{new_grid, regrown}
-use Rattle.mesh_model.specs.Valid.{ValidMesh}
-use Rattle.mesh_model.proofs.Closure.{refined_leaf}
-use Rattle.mesh_model.proofs.Levels.{is_child}
-use Rattle.mesh_model.proofs.Nodes.{in_node}
-use Rattle.mesh_model.proofs.Ruled.{room, refined_may, least, merged_may, greatest}
-use Rattle.mesh_model.proofs.Tiling.{child_in, lies_refl}
-use Rattle.mesh_model.specs.Blocks.{child_block}
+use Rattle.mesh_model.specs.Tree.Closure.{is_refined, is_merged}
+use Rattle.mesh_model.specs.Tree.Order.{IsIn, nodes}
+use Rattle.mesh_model.specs.Tree.Kinds.{Grid}
+use Rattle.mesh_model.specs.Fields.Plain.{Mesh}
+use Rattle.mesh_model.specs.Tree.Regrown.{new_grid, regrown}
+use Rattle.mesh_model.specs.Fields.Valid.{ValidMesh}
+use Rattle.mesh_model.proofs.FieldLemmas.Closure.{refined_leaf}
+use Rattle.mesh_model.proofs.TreeLemmas.Levels.{is_child}
+use Rattle.mesh_model.proofs.FieldLemmas.Nodes.{in_node}
+use Rattle.mesh_model.proofs.FieldLemmas.Ruled.{room, refined_may, least, merged_may, greatest}
+use Rattle.mesh_model.proofs.TreeLemmas.Tiling.{child_in, lies_refl}
+use Rattle.mesh_model.specs.Geometry.Blocks.{child_block}
 use Rattle.block_tree.specs.declared.marks.Marks.{Marks}
 use Rattle.block_tree.specs.Growing.{MayRegrow}
 use Rattle.block_tree.specs.declared.tree.Tree.{Tree}

@@ -3,15 +3,16 @@ use Rattle.std.proofs.Common.{◌≡◌, ℕ, suc, ◌-◌, ◌<◌, ◌≤◌, 
 use Rattle.std.proofs.lemmas.Bool.{cases_lt}
 use Rattle.std.specs.List.{list_any}
 use Rattle.amr_num.specs.declared.BlockAt.{BlockAt}
-use Rattle.mesh_model.specs.Closure.{refined, is_refined}
-use Rattle.mesh_model.specs.Order.{IsIn}
-use Rattle.mesh_model.specs.Plain.{Grid, Mesh, is_leaf_block}
-use Rattle.mesh_model.specs.Touch.{touches}
-use Rattle.mesh_model.specs.Valid.{ValidMesh}
-use Rattle.mesh_model.proofs.Closure.{refined_leaf}
-use Rattle.mesh_model.proofs.Ruled.{room, refined_may}
-use Rattle.mesh_model.proofs.Tests.{and_left, or_right, refuted}
-use Rattle.mesh_model.proofs.Tiling.{leaf_shows}
+use Rattle.mesh_model.specs.Tree.Closure.{refined, is_refined}
+use Rattle.mesh_model.specs.Tree.Order.{IsIn}
+use Rattle.mesh_model.specs.Tree.Kinds.{Grid, is_leaf_block}
+use Rattle.mesh_model.specs.Fields.Plain.{Mesh}
+use Rattle.mesh_model.specs.Geometry.Touch.{touches}
+use Rattle.mesh_model.specs.Fields.Valid.{ValidMesh}
+use Rattle.mesh_model.proofs.FieldLemmas.Closure.{refined_leaf}
+use Rattle.mesh_model.proofs.FieldLemmas.Ruled.{room, refined_may}
+use Rattle.mesh_model.proofs.TreeLemmas.Tests.{and_left, or_right, refuted}
+use Rattle.mesh_model.proofs.TreeLemmas.Tiling.{leaf_shows}
 use Rattle.refine_marks.specs.Closing.{refined_from, spread_to}
 use Rattle.refine_marks.specs.Flags.{AreFlagsOf, touches_any}
 

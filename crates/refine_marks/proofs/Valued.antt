@@ -1,6 +1,6 @@
 -- The mesh without variables that a tree and its marks stand for is valid.
 use Rattle.std.proofs.Common.{refl, arith}
-use Rattle.mesh_model.specs.Valid.{ValidMesh}
+use Rattle.mesh_model.specs.Fields.Valid.{ValidMesh}
 use Rattle.block_tree.specs.declared.marks.Marks.{Marks}
 use Rattle.block_tree.specs.declared.tree.Tree.{Tree}
 use Rattle.block_tree.specs.GridOf.{grid_of}

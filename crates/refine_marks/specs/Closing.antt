@@ -2,9 +2,10 @@
 use Rattle.std.specs.Prelude.{ℕ, suc, Bool, not, ◌&&◌, ◌||◌, ◌==◌, nat_lt, nat_le, if◌then◌else◌}
 use Rattle.std.specs.List.{list_all}
 use Rattle.amr_num.specs.declared.BlockAt.{BlockAt}
-use Rattle.mesh_model.specs.Blocks.{parent_block, children}
-use Rattle.mesh_model.specs.Closure.{is_refined, is_merged, is_ready}
-use Rattle.mesh_model.specs.Plain.{Grid, Mesh, is_leaf_block}
+use Rattle.mesh_model.specs.Geometry.Blocks.{parent_block, children}
+use Rattle.mesh_model.specs.Tree.Closure.{is_refined, is_merged, is_ready}
+use Rattle.mesh_model.specs.Tree.Kinds.{Grid, is_leaf_block}
+use Rattle.mesh_model.specs.Fields.Plain.{Mesh}
 use Rattle.refine_marks.specs.Flags.{touches_any}
 
 -- the set and, of the leaves of level l, those that touch a leaf of the set one level finer

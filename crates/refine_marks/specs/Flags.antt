@@ -2,10 +2,10 @@
 use Rattle.std.specs.Prelude.{◌≡◌, ℕ, Bool, ◌&&◌, ◌||◌, ◌==◌, List, length}
 use Rattle.std.specs.List.{list_any}
 use Rattle.amr_num.specs.declared.BlockAt.{BlockAt}
-use Rattle.mesh_model.specs.Order.{nodes}
-use Rattle.mesh_model.specs.Plain.{Grid}
-use Rattle.mesh_model.specs.Setting.{is_same_block}
-use Rattle.mesh_model.specs.Touch.{touches}
+use Rattle.mesh_model.specs.Tree.Order.{nodes}
+use Rattle.mesh_model.specs.Tree.Kinds.{Grid}
+use Rattle.mesh_model.specs.Geometry.Blocks.{is_same_block}
+use Rattle.mesh_model.specs.Geometry.Touch.{touches}
 use Rattle.block_tree.specs.Numbered.{IsNode, block_at, flag_in}
 
 -- the list has one flag for each node

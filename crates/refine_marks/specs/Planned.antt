@@ -1,9 +1,10 @@
 -- What marks on a tree say of a mesh, and what a plan says of its closure.
 use Rattle.std.specs.Prelude.{◌≡◌, Bool, true, pos}
 use Rattle.amr_num.specs.declared.BlockAt.{BlockAt}
-use Rattle.mesh_model.specs.Laws.{MayRefine, MayMerge}
-use Rattle.mesh_model.specs.Plain.{Grid, Mesh}
-use Rattle.mesh_model.specs.VariableNames.{no_names}
+use Rattle.mesh_model.specs.Fields.Laws.{MayRefine, MayMerge}
+use Rattle.mesh_model.specs.Tree.Kinds.{Grid}
+use Rattle.mesh_model.specs.Fields.Plain.{Mesh}
+use Rattle.mesh_model.specs.Fields.VariableNames.{no_names}
 use Rattle.block_tree.specs.declared.marks.Marks.{Marks}
 use Rattle.block_tree.specs.declared.tree.Tree.{Tree}
 use Rattle.block_tree.specs.GridOf.{grid_of}

@@ -4,9 +4,9 @@ ghost use Rattle.std.specs.Prelude.{◌≡◌, Bool, ◌&&◌, ◌==◌};
 ghost use Rattle.amr_num.specs.declared.BlockAt.{BlockAt};
 ghost use Rattle.block_tree.specs.GridOf.{grid_of};
 ghost use Rattle.block_tree.specs.Numbered.{IsNode, block_at, flag_in};
-ghost use Rattle.mesh_model.specs.Plain.{is_leaf_block};
-ghost use Rattle.mesh_model.specs.Touch as touch;
-ghost use Rattle.mesh_model.specs.Valid.{InDomain};
+ghost use Rattle.mesh_model.specs.Tree.Kinds.{is_leaf_block};
+ghost use Rattle.mesh_model.specs.Geometry.Touch as touch;
+ghost use Rattle.mesh_model.specs.Tree.ValidGrid.{InDomain};
 ghost use Rattle.refine_marks.specs.Flags.{AreFlagsAt, IsOnePerNode, touches_any};
 
 use amr_num::BlockAt;

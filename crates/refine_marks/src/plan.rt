@@ -4,9 +4,9 @@ ghost use Rattle.std.specs.Prelude.{◌≡◌, IfOk, map};
 ghost use Rattle.block_tree.specs.GridOf.{grid_of};
 ghost use Rattle.block_tree.specs.Growing.{MayRegrow};
 ghost use Rattle.block_tree.specs.Marked.{IsMarksOf};
-ghost use Rattle.mesh_model.specs.Closure.{is_merged, is_refined};
-ghost use Rattle.mesh_model.specs.Order.{nodes};
-ghost use Rattle.mesh_model.specs.Regrid.{new_grid, regrown};
+ghost use Rattle.mesh_model.specs.Tree.Closure.{is_merged, is_refined};
+ghost use Rattle.mesh_model.specs.Tree.Order.{nodes};
+ghost use Rattle.mesh_model.specs.Tree.Regrown.{new_grid, regrown};
 ghost use Rattle.refine_marks.specs.Flags.{IsOnePerNode};
 ghost use Rattle.refine_marks.specs.Planned.{IsGreatest, IsLeast, OfEachMesh, merged_by, refined_by};
 

@@ -5,11 +5,11 @@ ghost use Rattle.amr_num.specs.declared.BlockAt.{BlockAt};
 ghost use Rattle.block_tree.specs.GridOf.{grid_of};
 ghost use Rattle.block_tree.specs.Marked as marked;
 ghost use Rattle.block_tree.specs.Numbered.{IsNode, block_at};
-ghost use Rattle.mesh_model.specs.Plain.{Grid, is_leaf_block};
+ghost use Rattle.mesh_model.specs.Tree.Kinds.{Grid, is_leaf_block};
 ghost use Rattle.refine_marks.specs.Flags.{AddsBlock, IsSameSet};
 
 use block_tree::{Marks, Tree};
-pub use mesh_model::stops::LevelStop;
+pub use mesh_model::run::stops::LevelStop;
 
 /// Marks a single leaf.
 pub trait SetMarks {

@@ -1,5 +1,5 @@
 ghost use Rattle.std.specs.Prelude.{◌<◌, ◌≤◌};
-ghost use Rattle.mesh_model.specs.Limits.{IsShape};
+ghost use Rattle.mesh_model.specs.Geometry.Limits.{IsShape};
 
 use crate::{LevelStop, SetMarks, close};
 use amr_num::{BlockAt, SideKind};

@@ -1,17 +1,17 @@
 -- What an action names and how great its numbers are.
 use Rattle.std.proofs.Common.{◌≡◌, ℕ, ◌^◌, Bool, true, false, ◌==◌, if◌then◌else◌, List, Ok, Err, IsSome, length, codes, bytes_eq, refl, subst}
-use Rattle.mesh_model.specs.declared.script.Action.{Action}
-use Rattle.mesh_model.specs.declared.script.Action.TheVariants as action
-use Rattle.mesh_model.specs.declared.script.Command.{Command}
-use Rattle.mesh_model.specs.declared.script.Command.TheVariants.{FillAll, FillBox, FaceSet, EdgeSet, Uniform, MarkRefine, MarkDerefine, RefineWhere, DerefineWhere, Regrid, Advect, Curl, Induct, Checkpoint, PrintSize, PrintMesh, PrintTree, PrintRanks, PrintTrace, PrintVar, PrintGuards, Total, NetFlux}
-use Rattle.mesh_model.specs.declared.script.Declared.{Declared}
-use Rattle.mesh_model.specs.declared.script.Reason.TheVariants.{BadBox, UnknownWord}
-use Rattle.mesh_model.specs.Actions.{fill_all, fill_box, fill, faceset, edgeset, uniform, refine_where, refine_block, derefine_where, derefine_block, mark, advect, induct, print_var, print_one, print_guards, print, total}
-use Rattle.mesh_model.specs.Commands.{IsCommandOf}
-use Rattle.mesh_model.specs.Forms.{leaf_number, numbers, level, point, block, fixed, axis, cell_variable, variable}
-use Rattle.mesh_model.specs.Grammar.{acts, wants_face, wants_edge}
-use Rattle.mesh_model.specs.VariableNames.{VariableNames}
-use Rattle.mesh_model.specs.Words.{word}
+use Rattle.mesh_model.specs.declared.language.script.Action.{Action}
+use Rattle.mesh_model.specs.declared.language.script.Action.TheVariants as action
+use Rattle.mesh_model.specs.declared.language.script.Command.{Command}
+use Rattle.mesh_model.specs.declared.language.script.Command.TheVariants.{FillAll, FillBox, FaceSet, EdgeSet, Uniform, MarkRefine, MarkDerefine, RefineWhere, DerefineWhere, Regrid, Advect, Curl, Induct, Checkpoint, PrintSize, PrintMesh, PrintTree, PrintRanks, PrintTrace, PrintVar, PrintGuards, Total, NetFlux}
+use Rattle.mesh_model.specs.declared.language.script.Declared.{Declared}
+use Rattle.mesh_model.specs.declared.language.script.Reason.TheVariants.{BadBox, UnknownWord}
+use Rattle.mesh_model.specs.Language.Actions.{fill_all, fill_box, fill, faceset, edgeset, uniform, refine_where, refine_block, derefine_where, derefine_block, mark, advect, induct, print_var, print_one, print_guards, print, total}
+use Rattle.mesh_model.specs.Language.Commands.{IsCommandOf}
+use Rattle.mesh_model.specs.Language.Forms.{leaf_number, numbers, level, point, block, fixed, axis, cell_variable, variable}
+use Rattle.mesh_model.specs.Language.Grammar.{acts, wants_face, wants_edge}
+use Rattle.mesh_model.specs.Fields.VariableNames.{VariableNames}
+use Rattle.mesh_model.specs.Language.Words.{word}
 use Rattle.script_lang.proofs.Ranges.{count_range, named_cell, named_group, small, three_says, place_says, box_says}
 use Rattle.script_lang.proofs.Steps.{bound, passed, same_value}
 

@@ -5,19 +5,19 @@ use Rattle.std.proofs.lemmas.List.Quantifiers.{all_pairs_push}
 use Rattle.std.proofs.lemmas.List.Sums.{fails_before_first}
 use Rattle.std.proofs.lemmas.Slice.Eq.{bytes_eq-Decides}
 use Rattle.std.specs.List.{list_any, position_or_len}
-use Rattle.mesh_model.specs.declared.Shape.{Shape}
-use Rattle.mesh_model.specs.declared.script.Declaration.{Declaration}
-use Rattle.mesh_model.specs.declared.script.Declaration.TheVariants as declaration
-use Rattle.mesh_model.specs.declared.script.Reading.{Reading}
-use Rattle.mesh_model.specs.declared.script.Reason.{Reason}
-use Rattle.mesh_model.specs.declared.script.Reason.TheVariants.{OutOfRange, Unpaired, BadName, NameTaken, TooMany}
-use Rattle.mesh_model.specs.Commands.{IsAcceptedShape, AreNames, AreDifferent, InLimits}
-use Rattle.mesh_model.specs.Coordinates.{is_periodic_kind}
-use Rattle.mesh_model.specs.Declarations.{domain, cells, bounds, levels, cellvar, facevar, edgevar, are_paired}
-use Rattle.mesh_model.specs.Forms.{count, one_of, level, side, cell_named, is_named, is_taken, new_name, ◌>>=◌}
-use Rattle.mesh_model.specs.Grammar.{declares}
-use Rattle.mesh_model.specs.VariableNames.{VariableNames}
-use Rattle.mesh_model.specs.Words.{word, is_name}
+use Rattle.mesh_model.specs.declared.geometry.Shape.{Shape}
+use Rattle.mesh_model.specs.declared.language.script.Declaration.{Declaration}
+use Rattle.mesh_model.specs.declared.language.script.Declaration.TheVariants as declaration
+use Rattle.mesh_model.specs.declared.language.script.Reading.{Reading}
+use Rattle.mesh_model.specs.declared.language.script.Reason.{Reason}
+use Rattle.mesh_model.specs.declared.language.script.Reason.TheVariants.{OutOfRange, Unpaired, BadName, NameTaken, TooMany}
+use Rattle.mesh_model.specs.Language.Commands.{IsAcceptedShape, AreNames, AreDifferent, InLimits}
+use Rattle.mesh_model.specs.Geometry.Coordinates.{is_periodic_kind}
+use Rattle.mesh_model.specs.Language.Declarations.{domain, cells, bounds, levels, cellvar, facevar, edgevar, are_paired}
+use Rattle.mesh_model.specs.Language.Forms.{count, one_of, level, side, cell_named, is_named, is_taken, new_name, ◌>>=◌}
+use Rattle.mesh_model.specs.Language.Grammar.{declares}
+use Rattle.mesh_model.specs.Fields.VariableNames.{VariableNames}
+use Rattle.mesh_model.specs.Language.Words.{word, is_name}
 use Rattle.script_lang.proofs.Ranges.{count_range, one_says}
 use Rattle.script_lang.proofs.Steps.{bound, passed, both, same_value}
 

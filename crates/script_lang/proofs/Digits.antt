@@ -3,10 +3,10 @@ use Rattle.std.proofs.Common.{leb-true, ◌≡◌, ℕ, zero, suc, ◌^◌, ◌<
 use Rattle.std.proofs.lemmas.Bool.Decides.{nat_tests}
 use Rattle.std.specs.List.{list_all}
 use Rattle.std.specs.Str.{IsAscii}
-use Rattle.mesh_model.specs.declared.script.Reason.{Reason}
-use Rattle.mesh_model.specs.declared.script.Reason.TheVariants.{NotNumber, OutOfRange}
-use Rattle.mesh_model.specs.Words.{is_digit, is_positive, is_name_byte, is_name, number_of, digits_value, after_minus}
-use Rattle.mesh_model.specs.Forms.{check, number, count}
+use Rattle.mesh_model.specs.declared.language.script.Reason.{Reason}
+use Rattle.mesh_model.specs.declared.language.script.Reason.TheVariants.{NotNumber, OutOfRange}
+use Rattle.mesh_model.specs.Language.Words.{is_digit, is_positive, is_name_byte, is_name, number_of, digits_value, after_minus}
+use Rattle.mesh_model.specs.Language.Forms.{check, number, count}
 
 both : (a b : Bool) → (a && b) ≡ true → (a ≡ true) × (b ≡ true)
 both true b h = (refl, h)

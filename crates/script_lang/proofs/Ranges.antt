@@ -7,16 +7,16 @@ use Rattle.amr_num.specs.Numbers.{Within}
 use Rattle.amr_num.specs.declared.BlockAt.{BlockAt}
 use Rattle.amr_num.specs.declared.Axis.{Axis}
 use Rattle.amr_num.specs.declared.Axis.TheVariants.{X, Y, Z}
-use Rattle.mesh_model.specs.declared.Shape.{Shape}
-use Rattle.mesh_model.specs.declared.script.Group.{Group}
-use Rattle.mesh_model.specs.declared.script.Group.TheVariants.{Cell, Face, Edge}
-use Rattle.mesh_model.specs.declared.script.Reason.TheVariants.{NotNumber, OutOfRange, UnknownVariable}
-use Rattle.mesh_model.specs.Actions.{is_between, is_box}
-use Rattle.mesh_model.specs.Commands.{AreThree, IsPlace, IsBox, IsGroup, axis_index}
-use Rattle.mesh_model.specs.Coordinates.{extent}
-use Rattle.mesh_model.specs.Forms.{number, numbers, count, one_of, level, block, cell_variable, cell_named, is_named, variable, variable_named, found}
-use Rattle.mesh_model.specs.VariableNames.{VariableNames}
-use Rattle.mesh_model.specs.Words.{word, number_of}
+use Rattle.mesh_model.specs.declared.geometry.Shape.{Shape}
+use Rattle.mesh_model.specs.declared.fields.values.Group.{Group}
+use Rattle.mesh_model.specs.declared.fields.values.Group.TheVariants.{Cell, Face, Edge}
+use Rattle.mesh_model.specs.declared.language.script.Reason.TheVariants.{NotNumber, OutOfRange, UnknownVariable}
+use Rattle.mesh_model.specs.Language.Actions.{is_between, is_box}
+use Rattle.mesh_model.specs.Language.Commands.{AreThree, IsPlace, IsBox, IsGroup}
+use Rattle.mesh_model.specs.Geometry.Coordinates.{axis_index, extent}
+use Rattle.mesh_model.specs.Language.Forms.{number, numbers, count, one_of, level, block, cell_variable, cell_named, is_named, variable, variable_named, found}
+use Rattle.mesh_model.specs.Fields.VariableNames.{VariableNames}
+use Rattle.mesh_model.specs.Language.Words.{word, number_of}
 use Rattle.script_lang.proofs.Steps.{bound, passed, both, same_value, found_says}
 
 in_range : (low high : ℕ) (z : ℤ) → (int_le (pos low) z && int_le z (pos high)) ≡ true → (low ≤ unsigned_abs z) × (unsigned_abs z ≤ high)

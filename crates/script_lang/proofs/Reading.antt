@@ -1,15 +1,15 @@
 -- One line after another.
 use Rattle.std.proofs.Common.{◌≡◌, ℕ, zero, suc, ◌+◌, ◌^◌, ◌<◌, ◌≤◌, false, nat_lt, List, [], ◌∷◌, ◌++◌, Option, Result, Ok, Err, length, get_or, drop, refl, sym, ap, subst, ◌∙◌, arith, append_assoc, count_by, Bor}
-use Rattle.mesh_model.specs.declared.script.Command.{Command}
-use Rattle.mesh_model.specs.declared.script.Declared.{Declared}
-use Rattle.mesh_model.specs.declared.script.Line.{Line}
-use Rattle.mesh_model.specs.declared.script.Reading.{Reading}
-use Rattle.mesh_model.specs.declared.script.Reason.{Reason}
-use Rattle.mesh_model.specs.declared.script.Reason.TheVariants.{EndMissing}
+use Rattle.mesh_model.specs.declared.language.script.Command.{Command}
+use Rattle.mesh_model.specs.declared.language.script.Declared.{Declared}
+use Rattle.mesh_model.specs.declared.language.script.Line.{Line}
+use Rattle.mesh_model.specs.declared.language.script.Reading.{Reading}
+use Rattle.mesh_model.specs.declared.language.script.Reason.{Reason}
+use Rattle.mesh_model.specs.declared.language.script.Reason.TheVariants.{EndMissing}
 use Rattle.std.proofs.lemmas.Bool.Decides.{nat_tests}
-use Rattle.mesh_model.specs.Forms.{◌>>=◌}
-use Rattle.mesh_model.specs.Grammar.{Fault, Said, line_of, lines_say, at_start, script_of, on_line, numbered}
-use Rattle.mesh_model.specs.Words.{words_of, lines_of, is_line_end}
+use Rattle.mesh_model.specs.Language.Forms.{◌>>=◌}
+use Rattle.mesh_model.specs.Language.Grammar.{Fault, Said, line_of, lines_say, at_start, script_of, on_line, numbered}
+use Rattle.mesh_model.specs.Language.Words.{words_of, lines_of, is_line_end}
 use Rattle.script_lang.specs.Answers.{texts, Stopped, Halts}
 use Rattle.script_lang.specs.declared.reader.ScriptStop.{ScriptStop}
 use Rattle.script_lang.specs.declared.reader.ScriptStop.TheVariants as ends

@@ -2,19 +2,19 @@
 use Rattle.std.proofs.Common.{◌≡◌, ℕ, zero, suc, ◌+◌, ◌^◌, ◌<◌, ◌⊎◌, inl, inr, Bool, true, false, not, ◌&&◌, ◌||◌, nat_lt, if◌then◌else◌, List, [], ◌∷◌, ◌++◌, Option, Some, None, Result, Ok, Err, IfSome, IsSome, is_none, length, take, get_or, count_by, All, Bor, refl, sym, ap, subst, ◌∙◌, arith}
 use Rattle.std.proofs.lemmas.Bool.Decides.{nat_tests}
 use Rattle.std.specs.Option.{option_copied}
-use Rattle.mesh_model.specs.declared.script.Action.{Action}
-use Rattle.mesh_model.specs.declared.script.Declaration.{Declaration}
-use Rattle.mesh_model.specs.declared.script.Declared.{Declared}
-use Rattle.mesh_model.specs.declared.script.Keyword.{Keyword}
-use Rattle.mesh_model.specs.declared.script.Keyword.TheVariants.{Declares, Acts, Ends}
-use Rattle.mesh_model.specs.declared.script.Line.{Line}
-use Rattle.mesh_model.specs.declared.script.Reading.{Reading}
-use Rattle.mesh_model.specs.declared.script.Reason.{Reason}
-use Rattle.mesh_model.specs.declared.script.Reason.TheVariants.{TooLong, DomainMissing, TooLate, Twice, WordCount, UnknownVariable, TextAfterEnd, UnknownCommand, EndMissing}
-use Rattle.mesh_model.specs.Commands.{PlainScript, InLimits, IsCommandOf, IsLineOf}
-use Rattle.mesh_model.specs.Forms.{found, check, ◌>>=◌}
-use Rattle.mesh_model.specs.Grammar.{Fault, Said, script_of, lines_say, line_of, says, acts, declares, command_of, placed, keyword_of, comes_again, is_domain, is_declaration, has_count, lacks_variable, wants_face, wants_edge, on_line, numbered, closed, at_start}
-use Rattle.mesh_model.specs.Words.{word, words_of, lines_of, is_passed_over, is_line_end}
+use Rattle.mesh_model.specs.declared.language.script.Action.{Action}
+use Rattle.mesh_model.specs.declared.language.script.Declaration.{Declaration}
+use Rattle.mesh_model.specs.declared.language.script.Declared.{Declared}
+use Rattle.mesh_model.specs.declared.language.script.Keyword.{Keyword}
+use Rattle.mesh_model.specs.declared.language.script.Keyword.TheVariants.{Declares, Acts, Ends}
+use Rattle.mesh_model.specs.declared.language.script.Line.{Line}
+use Rattle.mesh_model.specs.declared.language.script.Reading.{Reading}
+use Rattle.mesh_model.specs.declared.language.script.Reason.{Reason}
+use Rattle.mesh_model.specs.declared.language.script.Reason.TheVariants.{TooLong, DomainMissing, TooLate, Twice, WordCount, UnknownVariable, TextAfterEnd, UnknownCommand, EndMissing}
+use Rattle.mesh_model.specs.Language.Commands.{PlainScript, InLimits, IsCommandOf, IsLineOf}
+use Rattle.mesh_model.specs.Language.Forms.{found, check, ◌>>=◌}
+use Rattle.mesh_model.specs.Language.Grammar.{Fault, Said, script_of, lines_say, line_of, says, acts, declares, command_of, placed, keyword_of, comes_again, is_domain, is_declaration, has_count, lacks_variable, wants_face, wants_edge, on_line, numbered, closed, at_start}
+use Rattle.mesh_model.specs.Language.Words.{word, words_of, lines_of, is_passed_over, is_line_end}
 use Rattle.script_lang.specs.Laws.{IsEndMissing, IsFirstFault}
 use Rattle.script_lang.proofs.Acting.{Has, acts_fit}
 use Rattle.script_lang.proofs.Declaring.{declares_within}

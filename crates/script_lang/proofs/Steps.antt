@@ -1,7 +1,7 @@
 -- Steps that give a value or refuse.
 use Rattle.std.proofs.Common.{◌≡◌, Bool, true, false, ◌&&◌, Option, Some, None, Result, Ok, Err, refl, ap}
-use Rattle.mesh_model.specs.declared.script.Reason.{Reason}
-use Rattle.mesh_model.specs.Forms.{check, found, ◌>>=◌}
+use Rattle.mesh_model.specs.declared.language.script.Reason.{Reason}
+use Rattle.mesh_model.specs.Language.Forms.{check, found, ◌>>=◌}
 
 -- where a step and what follows it gave a value, both did
 pub bound : {A B E : Type 0} (m : Result A E) (f : A → Result B E) (y : B) → (m >>= f) ≡ Ok y → (x : A) × (m ≡ Ok x) × (f x ≡ Ok y)

@@ -1,13 +1,13 @@
 -- How the reader's answers stand for what the language says.
 use Rattle.std.specs.Prelude.{◌≡◌, ℕ, ◌≤◌, List, ◌++◌, map, Option, Result, Ok, Err}
 use denote.Ref.{Bor}
-use Rattle.mesh_model.specs.declared.Shape.{Shape}
-use Rattle.mesh_model.specs.declared.script.Reason.{Reason}
-use Rattle.mesh_model.specs.declared.script.Command.{Command}
-use Rattle.mesh_model.specs.declared.script.Line.{Line}
-use Rattle.mesh_model.specs.declared.script.Reading.{Reading}
-use Rattle.mesh_model.specs.Grammar as grammar
-use Rattle.mesh_model.specs.Grammar.{Said, numbered}
+use Rattle.mesh_model.specs.declared.geometry.Shape.{Shape}
+use Rattle.mesh_model.specs.declared.language.script.Reason.{Reason}
+use Rattle.mesh_model.specs.declared.language.script.Command.{Command}
+use Rattle.mesh_model.specs.declared.language.script.Line.{Line}
+use Rattle.mesh_model.specs.declared.language.script.Reading.{Reading}
+use Rattle.mesh_model.specs.Language.Grammar as grammar
+use Rattle.mesh_model.specs.Language.Grammar.{Said, numbered}
 use Rattle.script_lang.specs.declared.reader.ScriptStop.{ScriptStop}
 use Rattle.script_lang.specs.declared.reader.ScriptStop.TheVariants as ends
 use Rattle.script_lang.specs.declared.reader.Stop.{Stop}

@@ -1,11 +1,11 @@
 -- What the laws of the language say.
 use Rattle.std.specs.Prelude.{◌≡◌, ℕ, suc, ◌+◌, ◌^◌, ◌<◌, ◌⊎◌, false, List, [], Option, Ok, Err, length, take, count_by, slice_index_or}
-use Rattle.mesh_model.specs.declared.script.Declared.{Declared}
-use Rattle.mesh_model.specs.declared.script.Line.{Line}
-use Rattle.mesh_model.specs.declared.script.Reading.{Reading}
-use Rattle.mesh_model.specs.declared.script.Reason.TheVariants.{TooLong, EndMissing}
-use Rattle.mesh_model.specs.Grammar.{Fault, at_start, line_of, lines_say}
-use Rattle.mesh_model.specs.Words.{lines_of, words_of, is_line_end}
+use Rattle.mesh_model.specs.declared.language.script.Declared.{Declared}
+use Rattle.mesh_model.specs.declared.language.script.Line.{Line}
+use Rattle.mesh_model.specs.declared.language.script.Reading.{Reading}
+use Rattle.mesh_model.specs.declared.language.script.Reason.TheVariants.{TooLong, EndMissing}
+use Rattle.mesh_model.specs.Language.Grammar.{Fault, at_start, line_of, lines_say}
+use Rattle.mesh_model.specs.Language.Words.{lines_of, words_of, is_line_end}
 
 -- the script is too long
 pub record IsTooLong (bytes : List ℕ) (f : Fault) : Type 0 where

@@ -1,15 +1,15 @@
 //! The lines that act: their words after the first, from left to right.
 
 ghost use Rattle.std.specs.Prelude.{◌≡◌, ℕ, ◌*◌, ◌^◌, ◌≤◌, ◌⊎◌, length};
-ghost use Rattle.mesh_model.specs.Actions as plain;
+ghost use Rattle.mesh_model.specs.Language.Actions as plain;
 ghost use Rattle.script_lang.specs.Answers.{texts, IsNarrow};
 
 use crate::variables::{cell_variable, variable};
 use crate::words::{axis, block, fixed, leaf_number, level, numbers, point, word};
 use amr_num::{EdgeAt, FaceAt};
 use mesh_model::Shape;
-use mesh_model::names::Names;
-use mesh_model::script::{Command, Declared, Reason};
+use mesh_model::language::names::Names;
+use mesh_model::language::script::{Command, Declared, Reason};
 
 /// How many cells of `level` stand side by side on the axis.
 fn extent(roots: u32, n: u32, level: u32) -> u32
@@ -22,7 +22,7 @@ fn extent(roots: u32, n: u32, level: u32) -> u32
 }
 
 /// Whether the box begins below its end on each axis, and ends within the domain.
-#[tactic(auto, unfolding(mesh_model::specs::Actions::is_box))]
+#[tactic(auto, unfolding(mesh_model::specs::Language::Actions::is_box))]
 fn is_box(shape: &Shape, level: u32, low: &[u32; 3], high: &[u32; 3]) -> bool
     requires narrow { IsNarrow shape.now }
     requires level { level ≤ 10 }
@@ -37,7 +37,7 @@ fn is_box(shape: &Shape, level: u32, low: &[u32; 3], high: &[u32; 3]) -> bool
 }
 
 /// `fill VAR all V`
-#[tactic(auto, unfolding(mesh_model::specs::Actions::fill_all))]
+#[tactic(auto, unfolding(mesh_model::specs::Language::Actions::fill_all))]
 fn fill_all(declared: &Declared, words: &[&[u8]]) -> Result<Command, Reason>
     requires { length words.now ≡ 4 }
     ensures { result ≡ plain.fill_all declared.now (texts words.now) }
@@ -49,7 +49,7 @@ fn fill_all(declared: &Declared, words: &[&[u8]]) -> Result<Command, Reason>
 }
 
 /// `fill VAR box L X0 Y0 Z0 X1 Y1 Z1 V`
-#[tactic(auto, unfolding(mesh_model::specs::Actions::fill_box))]
+#[tactic(auto, unfolding(mesh_model::specs::Language::Actions::fill_box))]
 fn fill_box(declared: &Declared, words: &[&[u8]]) -> Result<Command, Reason>
     requires words { length words.now ≡ 11 }
     requires narrow { IsNarrow declared.now.shape }
@@ -74,7 +74,7 @@ fn fill_box(declared: &Declared, words: &[&[u8]]) -> Result<Command, Reason>
 }
 
 /// `fill` with 4 or 11 words
-#[tactic(auto, unfolding(mesh_model::specs::Actions::fill))]
+#[tactic(auto, unfolding(mesh_model::specs::Language::Actions::fill))]
 pub fn fill(declared: &Declared, words: &[&[u8]]) -> Result<Command, Reason>
     requires words { (length words.now ≡ 4) ⊎ (length words.now ≡ 11) }
     requires narrow { IsNarrow declared.now.shape }
@@ -88,7 +88,7 @@ pub fn fill(declared: &Declared, words: &[&[u8]]) -> Result<Command, Reason>
 }
 
 /// `faceset A L X Y Z V`
-#[tactic(auto, unfolding(mesh_model::specs::Actions::faceset))]
+#[tactic(auto, unfolding(mesh_model::specs::Language::Actions::faceset))]
 pub fn faceset(words: &[&[u8]]) -> Result<Command, Reason>
     requires { length words.now ≡ 7 }
     ensures { result ≡ plain.faceset (texts words.now) }
@@ -107,7 +107,7 @@ pub fn faceset(words: &[&[u8]]) -> Result<Command, Reason>
 }
 
 /// `edgeset A L X Y Z V`
-#[tactic(auto, unfolding(mesh_model::specs::Actions::edgeset))]
+#[tactic(auto, unfolding(mesh_model::specs::Language::Actions::edgeset))]
 pub fn edgeset(words: &[&[u8]]) -> Result<Command, Reason>
     requires { length words.now ≡ 7 }
     ensures { result ≡ plain.edgeset (texts words.now) }
@@ -126,7 +126,7 @@ pub fn edgeset(words: &[&[u8]]) -> Result<Command, Reason>
 }
 
 /// `uniform BX BY BZ`
-#[tactic(auto, unfolding(mesh_model::specs::Actions::uniform))]
+#[tactic(auto, unfolding(mesh_model::specs::Language::Actions::uniform))]
 pub fn uniform(words: &[&[u8]]) -> Result<Command, Reason>
     requires { length words.now ≡ 4 }
     ensures { result ≡ plain.uniform (texts words.now) }
@@ -136,7 +136,7 @@ pub fn uniform(words: &[&[u8]]) -> Result<Command, Reason>
 }
 
 /// `mark refine where VAR above V`
-#[tactic(auto, unfolding(mesh_model::specs::Actions::refine_where))]
+#[tactic(auto, unfolding(mesh_model::specs::Language::Actions::refine_where))]
 fn refine_where(names: &Names, words: &[&[u8]]) -> Result<Command, Reason>
     requires { length words.now ≡ 6 }
     ensures { result ≡ plain.refine_where names.now (texts words.now) }
@@ -148,7 +148,7 @@ fn refine_where(names: &Names, words: &[&[u8]]) -> Result<Command, Reason>
 }
 
 /// `mark refine L X Y Z`
-#[tactic(auto, unfolding(mesh_model::specs::Actions::refine_block))]
+#[tactic(auto, unfolding(mesh_model::specs::Language::Actions::refine_block))]
 fn refine_block(words: &[&[u8]]) -> Result<Command, Reason>
     requires { length words.now ≡ 6 }
     ensures { result ≡ plain.refine_block (texts words.now) }
@@ -158,7 +158,7 @@ fn refine_block(words: &[&[u8]]) -> Result<Command, Reason>
 }
 
 /// `mark derefine where VAR below V`
-#[tactic(auto, unfolding(mesh_model::specs::Actions::derefine_where))]
+#[tactic(auto, unfolding(mesh_model::specs::Language::Actions::derefine_where))]
 fn derefine_where(names: &Names, words: &[&[u8]]) -> Result<Command, Reason>
     requires { length words.now ≡ 6 }
     ensures { result ≡ plain.derefine_where names.now (texts words.now) }
@@ -170,7 +170,7 @@ fn derefine_where(names: &Names, words: &[&[u8]]) -> Result<Command, Reason>
 }
 
 /// `mark derefine L X Y Z`
-#[tactic(auto, unfolding(mesh_model::specs::Actions::derefine_block))]
+#[tactic(auto, unfolding(mesh_model::specs::Language::Actions::derefine_block))]
 fn derefine_block(words: &[&[u8]]) -> Result<Command, Reason>
     requires { length words.now ≡ 6 }
     ensures { result ≡ plain.derefine_block (texts words.now) }
@@ -180,7 +180,7 @@ fn derefine_block(words: &[&[u8]]) -> Result<Command, Reason>
 }
 
 /// `mark`
-#[tactic(auto, unfolding(mesh_model::specs::Actions::mark))]
+#[tactic(auto, unfolding(mesh_model::specs::Language::Actions::mark))]
 pub fn mark(names: &Names, words: &[&[u8]]) -> Result<Command, Reason>
     requires { length words.now ≡ 6 }
     ensures { result ≡ plain.mark names.now (texts words.now) }
@@ -201,7 +201,7 @@ pub fn mark(names: &Names, words: &[&[u8]]) -> Result<Command, Reason>
 }
 
 /// `advect VAR NX NY NZ`
-#[tactic(auto, unfolding(mesh_model::specs::Actions::advect))]
+#[tactic(auto, unfolding(mesh_model::specs::Language::Actions::advect))]
 pub fn advect(names: &Names, words: &[&[u8]]) -> Result<Command, Reason>
     requires { length words.now ≡ 5 }
     ensures { result ≡ plain.advect names.now (texts words.now) }
@@ -212,7 +212,7 @@ pub fn advect(names: &Names, words: &[&[u8]]) -> Result<Command, Reason>
 }
 
 /// `induct NX NY NZ`
-#[tactic(auto, unfolding(mesh_model::specs::Actions::induct))]
+#[tactic(auto, unfolding(mesh_model::specs::Language::Actions::induct))]
 pub fn induct(words: &[&[u8]]) -> Result<Command, Reason>
     requires { length words.now ≡ 4 }
     ensures { result ≡ plain.induct (texts words.now) }
@@ -222,7 +222,7 @@ pub fn induct(words: &[&[u8]]) -> Result<Command, Reason>
 }
 
 /// `print VAR`
-#[tactic(auto, unfolding(mesh_model::specs::Actions::print_var))]
+#[tactic(auto, unfolding(mesh_model::specs::Language::Actions::print_var))]
 fn print_var(names: &Names, words: &[&[u8]]) -> Result<Command, Reason>
     requires { length words.now ≡ 2 }
     ensures { result ≡ plain.print_var names.now (texts words.now) }
@@ -232,7 +232,7 @@ fn print_var(names: &Names, words: &[&[u8]]) -> Result<Command, Reason>
 }
 
 /// `print` with 2 words
-#[tactic(auto, unfolding(mesh_model::specs::Actions::print_one))]
+#[tactic(auto, unfolding(mesh_model::specs::Language::Actions::print_one))]
 fn print_one(names: &Names, words: &[&[u8]]) -> Result<Command, Reason>
     requires { length words.now ≡ 2 }
     ensures { result ≡ plain.print_one names.now (texts words.now) }
@@ -257,7 +257,7 @@ fn print_one(names: &Names, words: &[&[u8]]) -> Result<Command, Reason>
 }
 
 /// `print guards VAR L X Y Z`
-#[tactic(auto, unfolding(mesh_model::specs::Actions::print_guards))]
+#[tactic(auto, unfolding(mesh_model::specs::Language::Actions::print_guards))]
 fn print_guards(names: &Names, words: &[&[u8]]) -> Result<Command, Reason>
     requires { length words.now ≡ 7 }
     ensures { result ≡ plain.print_guards names.now (texts words.now) }
@@ -269,7 +269,7 @@ fn print_guards(names: &Names, words: &[&[u8]]) -> Result<Command, Reason>
 }
 
 /// `print` with 2 or 7 words
-#[tactic(auto, unfolding(mesh_model::specs::Actions::print))]
+#[tactic(auto, unfolding(mesh_model::specs::Language::Actions::print))]
 pub fn print(names: &Names, words: &[&[u8]]) -> Result<Command, Reason>
     requires { (length words.now ≡ 2) ⊎ (length words.now ≡ 7) }
     ensures { result ≡ plain.print names.now (texts words.now) }
@@ -282,7 +282,7 @@ pub fn print(names: &Names, words: &[&[u8]]) -> Result<Command, Reason>
 }
 
 /// `total VAR`
-#[tactic(auto, unfolding(mesh_model::specs::Actions::total))]
+#[tactic(auto, unfolding(mesh_model::specs::Language::Actions::total))]
 pub fn total(names: &Names, words: &[&[u8]]) -> Result<Command, Reason>
     requires { length words.now ≡ 2 }
     ensures { result ≡ plain.total names.now (texts words.now) }

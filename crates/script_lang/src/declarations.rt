@@ -1,20 +1,20 @@
 //! The lines that declare: their words after the first, from left to right.
 
 ghost use Rattle.std.specs.Prelude.{◌≡◌, ◌∷◌, [], ◌++◌, ◌<◌, ◌≤◌, length, Some, Ok, Err, MatchResult, IfOk, OnOk};
-ghost use Rattle.mesh_model.specs.declared.names.TheConstants.{NAME_LENGTH};
-ghost use Rattle.mesh_model.specs.Coordinates.{is_periodic_kind};
-ghost use Rattle.mesh_model.specs.Declarations as plain;
+ghost use Rattle.mesh_model.specs.declared.language.names.TheConstants.{NAME_LENGTH};
+ghost use Rattle.mesh_model.specs.Geometry.Coordinates.{is_periodic_kind};
+ghost use Rattle.mesh_model.specs.Language.Declarations as plain;
 ghost use Rattle.script_lang.specs.Answers.{texts, IsNarrow};
 
 use crate::variables::new_name;
 use crate::words::{count, level, one_of, side, word};
 use amr_num::SideKind;
 use mesh_model::Shape;
-use mesh_model::names::{CELL_VARIABLES, Names};
-use mesh_model::script::Reason;
+use mesh_model::language::names::{CELL_VARIABLES, Names};
+use mesh_model::language::script::Reason;
 
 /// `domain RX RY RZ`
-#[tactic(auto, unfolding(mesh_model::specs::Declarations::domain))]
+#[tactic(auto, unfolding(mesh_model::specs::Language::Declarations::domain))]
 pub fn domain(shape: Shape, words: &[&[u8]]) -> Result<Shape, Reason>
     requires words { length words.now ≡ 4 }
     requires narrow { IsNarrow shape }
@@ -33,7 +33,7 @@ pub fn domain(shape: Shape, words: &[&[u8]]) -> Result<Shape, Reason>
 }
 
 /// `cells N G`
-#[tactic(auto, unfolding(mesh_model::specs::Declarations::cells))]
+#[tactic(auto, unfolding(mesh_model::specs::Language::Declarations::cells))]
 pub fn cells(shape: Shape, words: &[&[u8]]) -> Result<Shape, Reason>
     requires words { length words.now ≡ 3 }
     requires narrow { IsNarrow shape }
@@ -66,7 +66,7 @@ fn are_paired(low: SideKind, high: SideKind) -> bool
 }
 
 /// `bounds XL XH YL YH ZL ZH`
-#[tactic(auto, unfolding(mesh_model::specs::Declarations::bounds))]
+#[tactic(auto, unfolding(mesh_model::specs::Language::Declarations::bounds))]
 pub fn bounds(shape: Shape, words: &[&[u8]]) -> Result<Shape, Reason>
     requires words { length words.now ≡ 7 }
     requires narrow { IsNarrow shape }
@@ -88,7 +88,7 @@ pub fn bounds(shape: Shape, words: &[&[u8]]) -> Result<Shape, Reason>
 }
 
 /// `levels MIN MAX`
-#[tactic(auto, unfolding(mesh_model::specs::Declarations::levels))]
+#[tactic(auto, unfolding(mesh_model::specs::Language::Declarations::levels))]
 pub fn levels(shape: Shape, words: &[&[u8]]) -> Result<Shape, Reason>
     requires words { length words.now ≡ 3 }
     requires narrow { IsNarrow shape }
@@ -104,7 +104,7 @@ pub fn levels(shape: Shape, words: &[&[u8]]) -> Result<Shape, Reason>
 }
 
 /// `cellvar NAME`
-#[tactic(auto, unfolding(mesh_model::specs::Declarations::cellvar))]
+#[tactic(auto, unfolding(mesh_model::specs::Language::Declarations::cellvar))]
 pub fn cellvar<'a>(names: &Names, words: &[&'a [u8]]) -> Result<&'a str, Reason>
     requires { length words.now ≡ 2 }
     ensures name { MatchResult result (λ s. plain.cellvar names.now (texts words.now) ≡ Ok (record names.now { cells = names.now.cells ++ s.now ∷ [] })) (λ e. plain.cellvar names.now (texts words.now) ≡ Err e) }
@@ -116,7 +116,7 @@ pub fn cellvar<'a>(names: &Names, words: &[&'a [u8]]) -> Result<&'a str, Reason>
 }
 
 /// `facevar NAME`
-#[tactic(auto, unfolding(mesh_model::specs::Declarations::facevar))]
+#[tactic(auto, unfolding(mesh_model::specs::Language::Declarations::facevar))]
 pub fn facevar<'a>(names: &Names, words: &[&'a [u8]]) -> Result<&'a str, Reason>
     requires { length words.now ≡ 2 }
     ensures name { MatchResult result (λ s. plain.facevar names.now (texts words.now) ≡ Ok (record names.now { face = Some s.now })) (λ e. plain.facevar names.now (texts words.now) ≡ Err e) }
@@ -126,7 +126,7 @@ pub fn facevar<'a>(names: &Names, words: &[&'a [u8]]) -> Result<&'a str, Reason>
 }
 
 /// `edgevar NAME`
-#[tactic(auto, unfolding(mesh_model::specs::Declarations::edgevar))]
+#[tactic(auto, unfolding(mesh_model::specs::Language::Declarations::edgevar))]
 pub fn edgevar<'a>(names: &Names, words: &[&'a [u8]]) -> Result<&'a str, Reason>
     requires { length words.now ≡ 2 }
     ensures name { MatchResult result (λ s. plain.edgevar names.now (texts words.now) ≡ Ok (record names.now { edge = Some s.now })) (λ e. plain.edgevar names.now (texts words.now) ≡ Err e) }

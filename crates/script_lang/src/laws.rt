@@ -1,9 +1,9 @@
 //! Laws of the language.
 
 ghost use Rattle.std.specs.Prelude.{◌≡◌, ℕ, List, Option, Ok, Err, IfSome, All};
-ghost use Rattle.mesh_model.specs.declared.script.Declared.{Declared};
-ghost use Rattle.mesh_model.specs.Commands.{InLimits, IsLineOf, PlainScript};
-ghost use Rattle.mesh_model.specs.Grammar.{Fault, script_of};
+ghost use Rattle.mesh_model.specs.declared.language.script.Declared.{Declared};
+ghost use Rattle.mesh_model.specs.Language.Commands.{InLimits, IsLineOf, PlainScript};
+ghost use Rattle.mesh_model.specs.Language.Grammar.{Fault, script_of};
 ghost use Rattle.script_lang.specs.Laws.{IsFirstFault};
 
 /// The declarations of an accepted script are within the limits, with names that differ from each

@@ -8,5 +8,6 @@ pub mod reader;
 mod variables;
 pub mod words;
 
-pub use mesh_model::names::Names;
-pub use mesh_model::script::{Command, Declared, Group, Line, Reason, Script};
+pub use mesh_model::Group;
+pub use mesh_model::language::names::Names;
+pub use mesh_model::language::script::{Command, Declared, Line, Reason, Script};

@@ -2,10 +2,10 @@
 
 ghost use Rattle.std.specs.Prelude.{◌≡◌, ℕ, ◌<◌, ◌≤◌, ◌^◌, ◌-◌, true, false, length, IfOk, IfErr, IfSome, Option, Ok, Err, All};
 ghost use Rattle.std.specs.Option.{option_copied};
-ghost use Rattle.mesh_model.specs.Grammar as grammar;
-ghost use Rattle.mesh_model.specs.Grammar.{script_of};
-ghost use Rattle.mesh_model.specs.Words as plain;
-ghost use Rattle.mesh_model.specs.Commands.{plain_script, InLimits, IsLineOf};
+ghost use Rattle.mesh_model.specs.Language.Grammar as grammar;
+ghost use Rattle.mesh_model.specs.Language.Grammar.{script_of};
+ghost use Rattle.mesh_model.specs.Language.Words as plain;
+ghost use Rattle.mesh_model.specs.Language.Commands.{plain_script, InLimits, IsLineOf};
 ghost use Rattle.script_lang.specs.Answers.{texts, Answers, Adds, Stopped, Halts, IsNarrow};
 
 use crate::actions::{advect, edgeset, faceset, fill, induct, mark, print, total, uniform};
@@ -13,8 +13,8 @@ use crate::declarations::{bounds, cells, cellvar, domain, edgevar, facevar, leve
 use crate::words::{lines_of, word, words_of};
 use amr_num::{OutOfMemory, SideKind};
 use mesh_model::Shape;
-use mesh_model::names::Names;
-use mesh_model::script::{
+use mesh_model::language::names::Names;
+use mesh_model::language::script::{
     Action, Command, Declaration, Declared, Keyword, Line, Reading, Reason, Script,
 };
 use std::alloc::{AllocError, Global};
@@ -86,7 +86,7 @@ impl From<AllocError> for Stop {
     }
 }
 
-#[tactic(auto, unfolding(mesh_model::specs::Grammar::declaration_of))]
+#[tactic(auto, unfolding(mesh_model::specs::Language::Grammar::declaration_of))]
 fn declaration_of(word: &[u8]) -> Option<Declaration>
     ensures { result ≡ grammar.declaration_of word.now }
 {
@@ -114,7 +114,7 @@ fn declaration_of(word: &[u8]) -> Option<Declaration>
     None
 }
 
-#[tactic(auto, unfolding(mesh_model::specs::Grammar::setting_of))]
+#[tactic(auto, unfolding(mesh_model::specs::Language::Grammar::setting_of))]
 fn setting_of(word: &[u8]) -> Option<Action>
     ensures { result ≡ grammar.setting_of word.now }
 {
@@ -136,7 +136,7 @@ fn setting_of(word: &[u8]) -> Option<Action>
     None
 }
 
-#[tactic(auto, unfolding(mesh_model::specs::Grammar::step_of))]
+#[tactic(auto, unfolding(mesh_model::specs::Language::Grammar::step_of))]
 fn step_of(word: &[u8]) -> Option<Action>
     ensures { result ≡ grammar.step_of word.now }
 {
@@ -158,7 +158,7 @@ fn step_of(word: &[u8]) -> Option<Action>
     None
 }
 
-#[tactic(auto, unfolding(mesh_model::specs::Grammar::report_of))]
+#[tactic(auto, unfolding(mesh_model::specs::Language::Grammar::report_of))]
 fn report_of(word: &[u8]) -> Option<Action>
     ensures { result ≡ grammar.report_of word.now }
 {
@@ -180,7 +180,7 @@ fn action_of(word: &[u8]) -> Option<Action>
     setting_of(word).or(step_of(word)).or(report_of(word))
 }
 
-#[tactic(auto, unfolding(mesh_model::specs::Grammar::keyword_of))]
+#[tactic(auto, unfolding(mesh_model::specs::Language::Grammar::keyword_of))]
 fn keyword_of(word: &[u8]) -> Option<Keyword>
     ensures { result ≡ grammar.keyword_of word.now }
 {
@@ -309,7 +309,7 @@ fn is_declaration(keyword: Keyword) -> bool
 }
 
 /// Whether a line of `n` words that does this may stand here.
-#[tactic(auto, unfolding(mesh_model::specs::Grammar::placed))]
+#[tactic(auto, unfolding(mesh_model::specs::Language::Grammar::placed))]
 fn placed(reading: &Reading, keyword: Keyword, n: usize) -> Result<Keyword, Reason>
     ensures placed { result ≡ grammar.placed reading.now keyword n }
     ensures counted { IfOk result (λ k. grammar.has_count k n ≡ true) }
@@ -333,7 +333,7 @@ fn placed(reading: &Reading, keyword: Keyword, n: usize) -> Result<Keyword, Reas
 }
 
 /// What the line does, as far as its first word and the number of its words say.
-#[tactic(auto, unfolding(mesh_model::specs::Grammar::command_of))]
+#[tactic(auto, unfolding(mesh_model::specs::Language::Grammar::command_of))]
 fn command_of(reading: &Reading, words: &[&[u8]]) -> Result<Keyword, Reason>
     requires { 0 < length words.now }
     ensures command { result ≡ grammar.command_of reading.now (texts words.now) }
@@ -347,7 +347,7 @@ fn command_of(reading: &Reading, words: &[&[u8]]) -> Result<Keyword, Reason>
 }
 
 /// Takes what the line declares into `reading`.
-#[tactic(auto, unfolding(mesh_model::specs::Grammar::declares))]
+#[tactic(auto, unfolding(mesh_model::specs::Language::Grammar::declares))]
 fn declare(
     alloc: Global,
     reading: &mut Reading,
@@ -393,7 +393,7 @@ fn declare(
 }
 
 /// The command of the line.
-#[tactic(auto, unfolding(mesh_model::specs::Grammar::acts))]
+#[tactic(auto, unfolding(mesh_model::specs::Language::Grammar::acts))]
 fn act(declared: &Declared, action: Action, words: &[&[u8]]) -> Result<Command, Reason>
     requires counted { grammar.action_has action (length words.now) ≡ true }
     requires narrow { IsNarrow declared.now.shape }
@@ -417,7 +417,7 @@ fn act(declared: &Declared, action: Action, words: &[&[u8]]) -> Result<Command, 
 }
 
 /// Reads a line of these words, which does `keyword`.
-#[tactic(auto, unfolding(mesh_model::specs::Grammar::says))]
+#[tactic(auto, unfolding(mesh_model::specs::Language::Grammar::says))]
 fn read_words(
     alloc: Global,
     reading: &mut Reading,
@@ -456,7 +456,7 @@ fn is_passed_over(words: &[&[u8]]) -> bool
 }
 
 /// Reads a line.
-#[tactic(auto, unfolding(mesh_model::specs::Grammar::line_of))]
+#[tactic(auto, unfolding(mesh_model::specs::Language::Grammar::line_of))]
 fn read_line(alloc: Global, reading: &mut Reading, line: &[u8]) -> Result<Option<Command>, Stop>
     requires narrow { IsNarrow reading.old.declared.shape }
     ensures says { Answers (λ command. (reading.new, command)) result (grammar.line_of reading.old (plain.words_of line.now)) }
@@ -571,7 +571,7 @@ fn at_start(alloc: Global, start: Option<&Declared>) -> Result<Reading, OutOfMem
 pub const MOST_BYTES: usize = 1 << 20;
 
 /// The script that the bytes say, or the first fault in them.
-#[tactic(auto, unfolding(mesh_model::specs::Grammar::script_of))]
+#[tactic(auto, unfolding(mesh_model::specs::Language::Grammar::script_of))]
 fn read(alloc: Global, start: Option<&Declared>, bytes: &[u8]) -> Result<Script, ScriptStop>
     requires { IfSome start (λ d. InLimits d.now) }
     ensures script { IfOk result (λ s. script_of (option_copied start.entry) bytes.now ≡ Ok (plain_script s)) }

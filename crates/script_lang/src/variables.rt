@@ -2,13 +2,14 @@
 
 ghost use Rattle.std.specs.Prelude.{◌≡◌, ◌≤◌, true, false, Ok, Err, length, IfOk, MatchResult, OnOk};
 ghost use Rattle.std.specs.Option.{option_copied};
-ghost use Rattle.mesh_model.specs.declared.names.TheConstants.{NAME_LENGTH};
-ghost use Rattle.mesh_model.specs.Forms as form;
-ghost use Rattle.mesh_model.specs.Words.{is_name};
+ghost use Rattle.mesh_model.specs.declared.language.names.TheConstants.{NAME_LENGTH};
+ghost use Rattle.mesh_model.specs.Language.Forms as form;
+ghost use Rattle.mesh_model.specs.Language.Words.{is_name};
 
 use crate::words::is_name;
-use mesh_model::names::Names;
-use mesh_model::script::{Group, Reason};
+use mesh_model::Group;
+use mesh_model::language::names::Names;
+use mesh_model::language::script::Reason;
 
 /// The number of the cell variable with this name.
 fn find_cell(names: &Names, name: &[u8]) -> Option<u32>
@@ -33,14 +34,14 @@ fn is_named(name: Option<&str>, word: &[u8]) -> bool
 }
 
 /// The cell variable that the word names.
-#[tactic(auto, unfolding(mesh_model::specs::Forms::cell_variable))]
+#[tactic(auto, unfolding(mesh_model::specs::Language::Forms::cell_variable))]
 pub fn cell_variable(names: &Names, word: &[u8]) -> Result<u32, Reason>
     ensures { result ≡ form.cell_variable names.now word.now }
 {
     find_cell(names, word).ok_or(Reason::UnknownVariable)
 }
 
-#[tactic(auto, unfolding(mesh_model::specs::Forms::variable_named))]
+#[tactic(auto, unfolding(mesh_model::specs::Language::Forms::variable_named))]
 fn find(names: &Names, word: &[u8]) -> Option<Group>
     ensures { result ≡ form.variable_named names.now word.now }
 {
@@ -57,14 +58,14 @@ fn find(names: &Names, word: &[u8]) -> Option<Group>
 }
 
 /// The variable that the word names.
-#[tactic(auto, unfolding(mesh_model::specs::Forms::variable))]
+#[tactic(auto, unfolding(mesh_model::specs::Language::Forms::variable))]
 pub fn variable(names: &Names, word: &[u8]) -> Result<Group, Reason>
     ensures { result ≡ form.variable names.now word.now }
 {
     find(names, word).ok_or(Reason::UnknownVariable)
 }
 
-#[tactic(auto, unfolding(mesh_model::specs::Forms::is_taken))]
+#[tactic(auto, unfolding(mesh_model::specs::Language::Forms::is_taken))]
 fn is_taken(names: &Names, word: &[u8]) -> bool
     ensures { result ≡ form.is_taken names.now word.now }
 {
@@ -84,7 +85,7 @@ fn text_of(name: &[u8]) -> &str
 }
 
 /// The word as the name of a further variable, where `full` says that none of its kind may come.
-#[tactic(auto, unfolding(mesh_model::specs::Forms::new_name))]
+#[tactic(auto, unfolding(mesh_model::specs::Language::Forms::new_name))]
 pub fn new_name<'a>(names: &Names, full: bool, word: &'a [u8]) -> Result<&'a str, Reason>
     ensures name { MatchResult result (λ s. form.new_name names.now full word.now ≡ Ok s.now) (λ e. form.new_name names.now full word.now ≡ Err e) }
     ensures room { OnOk result (full ≡ false) }

@@ -1,18 +1,18 @@
 //! The words of a script: lines, words, numbers and names.
 
 ghost use Rattle.std.specs.Prelude.{◌≡◌, ℕ, ◌^◌, ◌≤◌, min, map, true, IfOk, nat_le, pos, neg_ℤ, unsigned_abs, int_le, ◌&&◌, ◌+◌, ◌<◌, length};
-ghost use Rattle.mesh_model.specs.declared.script.Reason.TheVariants.{OutOfRange};
+ghost use Rattle.mesh_model.specs.declared.language.script.Reason.TheVariants.{OutOfRange};
 ghost use Rattle.std.specs.List.{list_all};
-ghost use Rattle.mesh_model.specs.Words as plain;
-ghost use Rattle.mesh_model.specs.Forms as form;
+ghost use Rattle.mesh_model.specs.Language.Words as plain;
+ghost use Rattle.mesh_model.specs.Language.Forms as form;
 ghost use Rattle.script_lang.specs.Answers.{texts};
 
 use amr_num::{Axis, BlockAt, SideKind};
-use mesh_model::script::Reason;
+use mesh_model::language::script::Reason;
 use std::alloc::{AllocError, Global};
 
 /// The lines of a script: what stands before, between and after its LF bytes.
-#[tactic(auto, unfolding(mesh_model::specs::Words::lines_of))]
+#[tactic(auto, unfolding(mesh_model::specs::Language::Words::lines_of))]
 pub fn lines_of(alloc: Global, bytes: &[u8]) -> Result<Vec<&[u8]>, AllocError>
     ensures { IfOk result (λ v. map (λ x. x.now) v.items ≡ plain.lines_of bytes.now) }
 {
@@ -32,7 +32,7 @@ fn is_filled(word: &[u8]) -> bool
 }
 
 /// The words of a line: what stands between its spaces, tabs and CRs.
-#[tactic(auto, unfolding(mesh_model::specs::Words::words_of))]
+#[tactic(auto, unfolding(mesh_model::specs::Language::Words::words_of))]
 pub fn words_of(alloc: Global, line: &[u8]) -> Result<Vec<&[u8]>, AllocError>
     ensures { IfOk result (λ v. map (λ x. x.now) v.items ≡ plain.words_of line.now) }
 {
@@ -156,7 +156,7 @@ pub fn count(word: &[u8], low: u32, high: u32) -> Result<u32, Reason>
 }
 
 /// The one of these numbers, at most 8, that the word is.
-#[tactic(auto, unfolding(mesh_model::specs::Forms::one_of))]
+#[tactic(auto, unfolding(mesh_model::specs::Language::Forms::one_of))]
 pub fn one_of(word: &[u8], numbers: &[u32]) -> Result<u32, Reason>
     ensures value { result ≡ form.one_of numbers.now word.now }
     ensures range { IfOk result (λ n. n ≤ 8) }
@@ -193,7 +193,7 @@ pub fn word<'a>(words: &[&'a [u8]], i: usize) -> &'a [u8]
 }
 
 /// Three numbers of absolute value at most `most`, the first at place `i`.
-#[tactic(auto, unfolding(mesh_model::specs::Forms::numbers))]
+#[tactic(auto, unfolding(mesh_model::specs::Language::Forms::numbers))]
 pub fn numbers(words: &[&[u8]], i: usize, most: u64) -> Result<[i64; 3], Reason>
     requires words { i + 2 < length words.now }
     requires most { most ≤ 2 ^ 40 }
@@ -206,7 +206,7 @@ pub fn numbers(words: &[&[u8]], i: usize, most: u64) -> Result<[i64; 3], Reason>
 }
 
 /// Three coordinates, the first at place `i`.
-#[tactic(auto, unfolding(mesh_model::specs::Forms::point))]
+#[tactic(auto, unfolding(mesh_model::specs::Language::Forms::point))]
 pub fn point(words: &[&[u8]], i: usize) -> Result<[u32; 3], Reason>
     requires { i + 2 < length words.now }
     ensures { result ≡ form.point (texts words.now) i }
@@ -218,7 +218,7 @@ pub fn point(words: &[&[u8]], i: usize) -> Result<[u32; 3], Reason>
 }
 
 /// The place of a block: its level at place `i`, and then its coordinates.
-#[tactic(auto, unfolding(mesh_model::specs::Forms::block))]
+#[tactic(auto, unfolding(mesh_model::specs::Language::Forms::block))]
 pub fn block(words: &[&[u8]], i: usize) -> Result<BlockAt, Reason>
     requires { i + 3 < length words.now }
     ensures { result ≡ form.block (texts words.now) i }
@@ -231,7 +231,7 @@ pub fn block(words: &[&[u8]], i: usize) -> Result<BlockAt, Reason>
 }
 
 /// `UnknownWord` where the word is not this text.
-#[tactic(auto, unfolding(mesh_model::specs::Forms::fixed))]
+#[tactic(auto, unfolding(mesh_model::specs::Language::Forms::fixed))]
 pub fn fixed(word: &[u8], text: &[u8]) -> Result<(), Reason>
     ensures { result ≡ form.fixed text.now word.now }
 {
@@ -243,7 +243,7 @@ pub fn fixed(word: &[u8], text: &[u8]) -> Result<(), Reason>
 }
 
 /// `x`, `y` or `z`.
-#[tactic(auto, unfolding(mesh_model::specs::Forms::axis))]
+#[tactic(auto, unfolding(mesh_model::specs::Language::Forms::axis))]
 pub fn axis(word: &[u8]) -> Result<Axis, Reason>
     ensures { result ≡ form.axis word.now }
 {
@@ -260,7 +260,7 @@ pub fn axis(word: &[u8]) -> Result<Axis, Reason>
 }
 
 /// `periodic`, `outflow` or `closed`.
-#[tactic(auto, unfolding(mesh_model::specs::Forms::side))]
+#[tactic(auto, unfolding(mesh_model::specs::Language::Forms::side))]
 pub fn side(word: &[u8]) -> Result<SideKind, Reason>
     ensures { result ≡ form.side word.now }
 {
@@ -307,7 +307,7 @@ fn all_name_bytes(bytes: &[u8]) -> bool
 
 /// Whether the word is a name: 1 to 16 bytes, a letter a to z and then such letters, digits and `_`,
 /// and not reserved.
-#[tactic(auto, unfolding(mesh_model::specs::Words::is_name))]
+#[tactic(auto, unfolding(mesh_model::specs::Language::Words::is_name))]
 pub fn is_name(word: &[u8]) -> bool
     ensures { result ≡ plain.is_name word.now }
 {

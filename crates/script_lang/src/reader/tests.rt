@@ -1,7 +1,7 @@
 // Scripts that are accepted, and the fault of each that is not.
 use super::*;
 use amr_num::BlockAt;
-use mesh_model::script::Group;
+use mesh_model::Group;
 use std::process::Abort;
 use std::test::Fail;
 

@@ -1,5 +1,5 @@
 use Rattle.std.proofs.Common.{◌≡◌, ◌<◌, ◌-◌, false, true, sym, ap, ◌∙◌, arith, if◌then◌else◌}
-use Rattle.mesh_model.specs.Coordinates.{extent, is_periodic, on, with}
+use Rattle.mesh_model.specs.Geometry.Coordinates.{extent, is_periodic, on, with}
 use Rattle.amr_engine.proofs.Fluxes.{below_first, below_later}
 use Rattle.amr_engine.proofs.advection.cell_below.Goals as goal
 use Rattle.amr_engine.proofs.advection.cell_below.Goals.{then-here-gt0, else-here-gt0+then-is_periodic, else-here-gt0+else-is_periodic}

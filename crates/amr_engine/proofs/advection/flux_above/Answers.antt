@@ -1,9 +1,8 @@
 use Rattle.std.proofs.Common.{◌≡◌, ◌+◌, ◌^◌, suc, ◌&&◌, ◌==◌, sym, ap, ap₂, ◌∙◌, subst, arith}
 use Rattle.amr_num.specs.Numbers.{Within}
 use Rattle.amr_num.proofs.Machine.{kept}
-use Rattle.mesh_model.specs.Advect.{is_closed_kind, speed}
-use Rattle.mesh_model.specs.Coordinates.{extent, on, side_index, side_kind}
-use Rattle.mesh_model.specs.Setting.{three}
+use Rattle.mesh_model.specs.Fields.Advect.{is_closed_kind, speed, three}
+use Rattle.mesh_model.specs.Geometry.Coordinates.{extent, on, side_index, side_kind}
 use Rattle.step_advect.specs.Flux.{flux_between}
 use Rattle.amr_engine.specs.Contents.{content_in}
 use Rattle.amr_engine.proofs.Fluxes.{high_flux}

@@ -4,7 +4,7 @@ use Rattle.std.specs.Prelude.{ℕ}
 use Rattle.amr_num.specs.declared.CellAt.{CellAt}
 use Rattle.block_tree.specs.GridOf.{grid_of}
 use Rattle.block_tree.specs.Numbered.{block_at}
-use Rattle.mesh_model.specs.RangeWalk.{block_cells}
+use Rattle.mesh_model.specs.Geometry.Places.{block_cells}
 use Rattle.amr_engine.specs.Contents.{IsBlock}
 use Rattle.amr_engine.specs.Stepping.{Steps}
 use Rattle.amr_engine.proofs.Numbered.{flat_by_node, node_count, node_is_block}

@@ -1,7 +1,7 @@
 use Rattle.std.proofs.Common.{Ok}
 use Rattle.std.specs.Prelude.{flat_map}
 use Rattle.std.specs.List.{range_with_len}
-use Rattle.mesh_model.specs.RangeWalk.{block_cells}
+use Rattle.mesh_model.specs.Geometry.Places.{block_cells}
 use Rattle.block_tree.specs.GridOf.{grid_of}
 use Rattle.block_tree.specs.Numbered.{block_at}
 use Rattle.amr_engine.specs.Stepping.{Steps}

@@ -1,7 +1,7 @@
 use Rattle.std.proofs.Common.{Ok, map}
 use Rattle.std.specs.Prelude.{flat_map}
 use Rattle.std.specs.List.{range_with_len}
-use Rattle.mesh_model.specs.Texts.{in_block}
+use Rattle.mesh_model.specs.Geometry.Places.{in_block}
 use Rattle.amr_engine.specs.Stepping.{Steps}
 use Rattle.amr_engine.proofs.advection.step_block.Given as goal
 

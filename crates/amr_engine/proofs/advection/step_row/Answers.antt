@@ -3,7 +3,7 @@ use Rattle.std.proofs.lemmas.Result.{err_from_is_err_and}
 use Rattle.std.specs.List.{range_with_len}
 use Rattle.std.specs.Prelude.{ℕ}
 use Rattle.amr_num.specs.declared.CellAt.{CellAt}
-use Rattle.mesh_model.specs.Texts.{in_block}
+use Rattle.mesh_model.specs.Geometry.Places.{in_block}
 use Rattle.amr_engine.specs.Stepping.{Steps}
 use Rattle.amr_engine.proofs.Ranges.{map_singles}
 use Rattle.amr_engine.proofs.Stepped.{all_done, one_more, stopped_at}

@@ -1,7 +1,7 @@
 use Rattle.std.proofs.Common.{◌≡◌, ℕ, ◌*◌, ◌-◌, ◌^◌, ◌≤◌, ◌%◌, ◌∙◌, ap, arith, mod-eq_of_lt}
 use Rattle.std.proofs.lemmas.Nat.{mul-le}
 use Rattle.std.proofs.Math.Pow.{pow_mono}
-use Rattle.mesh_model.specs.Touch.{low_end}
+use Rattle.mesh_model.specs.Geometry.Touch.{low_end}
 use Rattle.amr_engine.proofs.contents.begin_of.Goals as goal
 
 shifted : (wide at level : ℕ) → wide ≡ at → at ≤ 2 ^ 20 → wide * 2 ^ (10 - level) % 18446744073709551616 ≡ at * 2 ^ (10 - level)

@@ -1,7 +1,7 @@
 use Rattle.std.proofs.Common.{◌≡◌, ◌∙◌, ap, arith}
 use Rattle.amr_num.specs.Numbers.{sum_below}
-use Rattle.mesh_model.specs.Texts.{in_block}
-use Rattle.mesh_model.specs.Totals.{box_sum}
+use Rattle.mesh_model.specs.Geometry.Places.{in_block}
+use Rattle.mesh_model.specs.Fields.Totals.{box_sum}
 use Rattle.amr_engine.specs.Contents.{content_in}
 use Rattle.amr_engine.proofs.contents.block_total.Goals as goal
 

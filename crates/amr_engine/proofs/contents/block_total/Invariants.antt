@@ -1,6 +1,6 @@
 use Rattle.std.proofs.Common.{◌≡◌, ◌*◌, ◌^◌}
 use Rattle.amr_num.specs.Numbers.{Within, sum_below}
-use Rattle.mesh_model.specs.Texts.{in_block}
+use Rattle.mesh_model.specs.Geometry.Places.{in_block}
 use Rattle.amr_engine.specs.Contents.{content_in}
 use Rattle.amr_engine.proofs.contents.block_total.Given as goal
 

@@ -1,6 +1,6 @@
 use Rattle.std.proofs.Common.{◌≡◌, ◌+◌, ◌≤◌, sym, ap, subst, ◌∙◌, arith, length, w64, to_z, of_z, ℕ, ℤ, Bool}
 use Rattle.std.proofs.lemmas.Int.{to_z-of_z}
-use Rattle.mesh_model.specs.Fill.{is_in_box}
+use Rattle.mesh_model.specs.Fields.Fill.{is_in_box}
 use Rattle.amr_engine.specs.Contents.{IsFilledBelow, cell_at}
 use Rattle.amr_engine.proofs.Rows.{takes, passes}
 use Rattle.amr_engine.proofs.contents.fill_box.Goals as goal

@@ -1,4 +1,4 @@
-use Rattle.mesh_model.specs.Fill.{is_in_box}
+use Rattle.mesh_model.specs.Fields.Fill.{is_in_box}
 use Rattle.amr_engine.specs.Contents.{IsFilledBelow, cell_at}
 use Rattle.amr_engine.proofs.contents.fill_box.Given as goal
 

@@ -1,7 +1,7 @@
 use Rattle.std.proofs.Common.{◌≡◌, ◌+◌, ◌∙◌, sym, ap, ap₂, suc, arith, true}
 use Rattle.std.proofs.lemmas.Bool.{le-leb}
 use Rattle.std.specs.Prelude.{◌&&◌, nat_le}
-use Rattle.mesh_model.specs.Touch.{high_end, low_end}
+use Rattle.mesh_model.specs.Geometry.Touch.{high_end, low_end}
 use Rattle.amr_engine.proofs.contents.lies_between.Goals as goal
 
 pub returns-then-begins : goal.returns-then-begins

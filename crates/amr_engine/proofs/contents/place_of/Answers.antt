@@ -1,7 +1,7 @@
 use Rattle.std.proofs.Common.{◌≡◌, ℕ, ◌+◌, ◌*◌, ap₂, arith, subst, sym, ◌<◌}
 use Rattle.std.proofs.lemmas.Nat.{mul-le}
 use Rattle.amr_num.specs.declared.Axis.TheVariants.{X, Y}
-use Rattle.mesh_model.specs.Coordinates.{extent}
+use Rattle.mesh_model.specs.Geometry.Coordinates.{extent}
 use Rattle.amr_engine.specs.Contents.{cell_count, place}
 use Rattle.amr_engine.proofs.Places.{few_cells, rows_before}
 use Rattle.amr_engine.proofs.Uniform.{place_inside}

@@ -1,5 +1,5 @@
 use Rattle.std.proofs.Common.{◌≡◌, ◌≤◌, ◌+◌, ◌-◌, pos, get_or, length, take, drop, ap, ◌∙◌, sym, arith}
-use Rattle.mesh_model.specs.Texts.{in_block}
+use Rattle.mesh_model.specs.Geometry.Places.{in_block}
 use Rattle.amr_engine.specs.Contents.{place}
 use Rattle.amr_engine.proofs.Places.{few_cells, place_along, row_within}
 use Rattle.amr_engine.proofs.Rows.{map_places_same, part_by_places}

@@ -1,7 +1,7 @@
 use Rattle.std.proofs.Common.{◌≡◌, ◌∙◌, arith}
 use Rattle.std.proofs.lemmas.Int.{ints}
 use Rattle.amr_num.specs.Numbers.{sum_below}
-use Rattle.mesh_model.specs.Texts.{in_block}
+use Rattle.mesh_model.specs.Geometry.Places.{in_block}
 use Rattle.amr_engine.specs.Contents.{content_in}
 use Rattle.amr_engine.proofs.Rows.{row_sum}
 use Rattle.amr_engine.proofs.contents.row_total.Goals as goal

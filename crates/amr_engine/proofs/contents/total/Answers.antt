@@ -4,7 +4,7 @@ use Rattle.std.proofs.lemmas.Int.{ints}
 use Rattle.std.specs.List.{range_with_len}
 use Rattle.block_tree.specs.GridOf.{grid_of}
 use Rattle.block_tree.specs.Numbered.{block_at}
-use Rattle.mesh_model.specs.Totals.{block_sum, sum_over}
+use Rattle.mesh_model.specs.Fields.Totals.{block_sum, sum_over}
 use Rattle.amr_engine.specs.Contents.{IsBlock, content_in}
 use Rattle.amr_engine.proofs.Numbered.{node_count, node_is_block, roots_by_number, sum_over_more}
 use Rattle.amr_engine.proofs.contents.total.Goals as goal

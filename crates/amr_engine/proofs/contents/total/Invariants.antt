@@ -3,7 +3,7 @@ use Rattle.std.specs.List.{range_with_len}
 use Rattle.amr_num.specs.Numbers.{Within}
 use Rattle.block_tree.specs.GridOf.{grid_of}
 use Rattle.block_tree.specs.Numbered.{block_at}
-use Rattle.mesh_model.specs.Totals.{block_sum, sum_over}
+use Rattle.mesh_model.specs.Fields.Totals.{block_sum, sum_over}
 use Rattle.amr_engine.specs.Contents.{content_in}
 use Rattle.amr_engine.proofs.contents.total.Given as goal
 

@@ -1,8 +1,8 @@
 use Rattle.std.proofs.Common.{ap, map}
 use Rattle.std.specs.Prelude.{string_bytes}
 use Rattle.amr_program.proofs.Clauses as clauses
-use Rattle.mesh_model.specs.Run.{KeepsOuts, KeepsTotals, StaysPositive}
-use Rattle.mesh_model.proofs.RunLaws.{runs_keep_outs, runs_keep_totals, runs_stay_positive}
+use Rattle.mesh_model.specs.Run.Runs.{KeepsOuts, KeepsTotals, StaysPositive}
+use Rattle.mesh_model.proofs.RunLemmas.RunLaws.{runs_keep_outs, runs_keep_totals, runs_stay_positive}
 use Rattle.amr_program.proofs.Commands.{along_run}
 use Rattle.amr_program.proofs.program.amr.Goals as goal
 

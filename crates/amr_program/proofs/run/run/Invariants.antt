@@ -1,6 +1,6 @@
 use Rattle.std.proofs.Common.{◌≡◌, take}
 use Rattle.amr_engine.specs.Plain.{declared_of, plain}
-use Rattle.mesh_model.specs.Run.{texts}
+use Rattle.mesh_model.specs.Run.Runs.{texts}
 use Rattle.outside_io.specs.Moved.{Takes}
 use Rattle.amr_program.proofs.Commands.{Progress}
 use Rattle.amr_program.proofs.run.run.Given as goal

@@ -1,5 +1,5 @@
 use Rattle.std.proofs.Common.{All, subst, sym, ap, ◌∙◌}
-use Rattle.mesh_model.specs.Commands.{plain_script}
+use Rattle.mesh_model.specs.Language.Commands.{plain_script}
 use Rattle.amr_engine.specs.Built.{IsBuiltLine}
 use Rattle.amr_engine.specs.Plain.{declared_of, plain}
 use Rattle.amr_engine.specs.Stopping.{Written}

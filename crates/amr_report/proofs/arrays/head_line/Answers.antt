@@ -1,6 +1,6 @@
 use Rattle.std.proofs.Common.{sym, ap, ◌++◌, [], ◌∷◌, ◌∙◌}
 use Rattle.std.specs.Prelude.{codes}
-use Rattle.mesh_model.specs.Texts.{block_words}
+use Rattle.mesh_model.specs.Run.Texts.{block_words}
 use Rattle.amr_report.specs.Arrays.{axis_words, head_line, head_word}
 use Rattle.amr_report.specs.Printing.{with_words}
 use Rattle.amr_report.proofs.Joined.{join_words, words_apart}

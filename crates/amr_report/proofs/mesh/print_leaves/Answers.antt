@@ -1,7 +1,7 @@
 use Rattle.std.proofs.Common.{arith}
 use Rattle.std.proofs.lemmas.Result.{err_from_is_err_and}
 use Rattle.block_tree.specs.GridOf.{grid_of}
-use Rattle.mesh_model.specs.Texts.{leaf_text}
+use Rattle.mesh_model.specs.Run.Texts.{leaf_text}
 use Rattle.amr_report.specs.Nodes.{of_leaf}
 use Rattle.amr_report.proofs.Numbered.{node_broke, nodes_printed}
 use Rattle.amr_report.proofs.Printed.{place_printed}

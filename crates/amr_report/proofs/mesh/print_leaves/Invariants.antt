@@ -1,7 +1,7 @@
 use Rattle.std.specs.List.{range_with_len}
 use Rattle.std.specs.Prelude.{flat_map}
 use Rattle.block_tree.specs.GridOf.{grid_of}
-use Rattle.mesh_model.specs.Texts.{leaf_text}
+use Rattle.mesh_model.specs.Run.Texts.{leaf_text}
 use Rattle.amr_report.specs.Nodes.{of_leaf}
 use Rattle.amr_report.proofs.Printed.{Printed}
 use Rattle.amr_report.proofs.mesh.print_leaves.Given as goal

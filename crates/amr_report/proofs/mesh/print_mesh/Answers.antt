@@ -1,7 +1,7 @@
 use Rattle.std.proofs.Common.{sym, subst}
 use Rattle.std.proofs.lemmas.Result.{err_from_is_err_and}
 use Rattle.std.specs.Prelude.{flat_map}
-use Rattle.mesh_model.specs.Texts.{leaf_text, mesh_text, size_text}
+use Rattle.mesh_model.specs.Run.Texts.{leaf_text, mesh_text, size_text}
 use Rattle.amr_report.specs.Printing.{Prints}
 use Rattle.amr_report.proofs.Printed.{first_broke, printed_after}
 use Rattle.amr_report.proofs.mesh.print_mesh.Goals as goal

@@ -1,5 +1,5 @@
 use Rattle.std.proofs.Common.{sym, subst, ap, ◌∙◌}
-use Rattle.mesh_model.specs.Texts.{size_text}
+use Rattle.mesh_model.specs.Run.Texts.{size_text}
 use Rattle.amr_report.specs.Nodes.{size_line}
 use Rattle.amr_report.specs.Printing.{Prints}
 use Rattle.amr_report.proofs.mesh.print_size.Goals as goal

@@ -1,7 +1,7 @@
 use Rattle.std.proofs.Common.{w64, sym, ap, ◌∙◌, rules}
 use Rattle.std.proofs.lemmas.Int.{to_z-of_z}
 use Rattle.block_tree.specs.GridOf.{grid_of}
-use Rattle.mesh_model.specs.Tree.{across, reported}
+use Rattle.mesh_model.specs.Tree.Reported.{across, reported}
 use Rattle.amr_report.proofs.Reported.{number_is, no_number}
 use Rattle.amr_report.proofs.nodes.number_across.Goals as goal
 

@@ -1,6 +1,6 @@
 use Rattle.std.proofs.Common.{sym, subst}
-use Rattle.mesh_model.specs.Order.{nodes}
-use Rattle.mesh_model.specs.TreeText.{nodes_text, tree_text}
+use Rattle.mesh_model.specs.Tree.Order.{nodes}
+use Rattle.mesh_model.specs.Run.TreeText.{nodes_text, tree_text}
 use Rattle.amr_report.specs.Printing.{Prints}
 use Rattle.amr_report.proofs.nodes.print_tree.Goals as goal
 

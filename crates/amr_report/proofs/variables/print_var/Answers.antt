@@ -1,10 +1,10 @@
 use Rattle.std.proofs.Common.{subst, sym, length, List, ℕ}
 use Rattle.std.specs.Prelude.{flat_map}
 use Rattle.block_tree.proofs.Facts.{known}
-use Rattle.mesh_model.specs.Order.{nodes}
-use Rattle.mesh_model.specs.Plain.{Grid}
-use Rattle.mesh_model.specs.Texts.{places}
-use Rattle.mesh_model.specs.Valid.{Valid}
+use Rattle.mesh_model.specs.Tree.Order.{nodes}
+use Rattle.mesh_model.specs.Tree.Kinds.{Grid}
+use Rattle.mesh_model.specs.Geometry.Places.{places}
+use Rattle.mesh_model.specs.Tree.ValidGrid.{Valid}
 use Rattle.amr_report.specs.Arrays.{leaf_text_of}
 use Rattle.amr_report.specs.Printing.{Prints}
 use Rattle.amr_report.proofs.Views.{leaves_are_shown}

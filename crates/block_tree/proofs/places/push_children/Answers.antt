@@ -1,7 +1,7 @@
 use Rattle.std.proofs.Common.{◌++◌, [], ◌∷◌, map, sym, ap, ◌∙◌, append_assoc, arith}
 use Rattle.std.specs.List.{range_with_len}
 use Rattle.std.proofs.lemmas.List.FromFn.{map-range_with_len_more}
-use Rattle.mesh_model.specs.Blocks.{child_block}
+use Rattle.mesh_model.specs.Geometry.Blocks.{child_block}
 use Rattle.block_tree.proofs.places.push_children.Goals as goal
 
 pub loop-octant-preserved : goal.loop-octant-preserved

@@ -1,6 +1,6 @@
 use Rattle.std.proofs.Common.{◌≡◌, ◌<◌, true, ap, arith}
-use Rattle.mesh_model.specs.Plain.{Grid, is_leaf_block}
-use Rattle.mesh_model.proofs.Tiling.{leaf_says}
+use Rattle.mesh_model.specs.Tree.Kinds.{Grid, is_leaf_block}
+use Rattle.mesh_model.proofs.TreeLemmas.Tiling.{leaf_says}
 use Rattle.block_tree.specs.GridOf.{grid_of}
 use Rattle.block_tree.specs.Numbered.{block_at}
 use Rattle.block_tree.proofs.Flat.{roots_flat}

@@ -1,5 +1,5 @@
 use Rattle.std.proofs.Common.{◌≡◌, ◌≤◌, true, false, [], ◌∷◌, refl, ap, arith}
-use Rattle.mesh_model.specs.Plain.{Grid, is_leaf_block}
+use Rattle.mesh_model.specs.Tree.Kinds.{Grid, is_leaf_block}
 use Rattle.block_tree.specs.GridOf.{grid_of}
 use Rattle.block_tree.specs.Numbered.{IsNode, block_at}
 use Rattle.block_tree.proofs.Flat.{roots_may, first_may}

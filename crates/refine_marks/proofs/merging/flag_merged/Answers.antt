@@ -1,7 +1,7 @@
 use Rattle.std.proofs.Common.{◌≡◌, ◌-◌, suc, false, ap, subst, sym, ◌∙◌, arith}
 use Rattle.block_tree.specs.GridOf.{grid_of}
-use Rattle.mesh_model.specs.declared.Shape.{Shape}
-use Rattle.mesh_model.specs.Closure.{is_merged}
+use Rattle.mesh_model.specs.declared.geometry.Shape.{Shape}
+use Rattle.mesh_model.specs.Tree.Closure.{is_merged}
 use Rattle.refine_marks.specs.Closing.{merged_from, merged_with, stays_beside}
 use Rattle.refine_marks.specs.Flags.{AreFlagsOf}
 use Rattle.refine_marks.specs.Planned.{mesh_of}

@@ -1,7 +1,7 @@
 use Rattle.std.proofs.Common.{sym, arith}
 use Rattle.block_tree.specs.GridOf.{grid_of}
 use Rattle.block_tree.specs.Numbered.{block_at}
-use Rattle.mesh_model.specs.Closure.{is_ready}
+use Rattle.mesh_model.specs.Tree.Closure.{is_ready}
 use Rattle.refine_marks.specs.Planned.{mesh_of}
 use Rattle.refine_marks.proofs.MergedLevels.{all_children}
 use Rattle.refine_marks.proofs.merging.has_ready_children.Goals as goal

@@ -1,6 +1,6 @@
 use Rattle.std.proofs.Common.{◌≡◌, ℕ, ◌<◌, true}
-use Rattle.mesh_model.specs.Blocks.{child_block}
-use Rattle.mesh_model.specs.Closure.{is_ready}
+use Rattle.mesh_model.specs.Geometry.Blocks.{child_block}
+use Rattle.mesh_model.specs.Tree.Closure.{is_ready}
 use Rattle.block_tree.specs.GridOf.{grid_of}
 use Rattle.block_tree.specs.Numbered.{block_at}
 use Rattle.refine_marks.specs.Planned.{mesh_of}

@@ -2,7 +2,7 @@ use Rattle.std.proofs.Common.{◌≡◌, not, ◌&&◌, nat_lt, rules, ◌∙◌
 use Rattle.block_tree.specs.GridOf.{grid_of}
 use Rattle.block_tree.specs.Marked.{derefine_at}
 use Rattle.block_tree.specs.Numbered.{block_at, flag_in}
-use Rattle.mesh_model.specs.Plain.{is_leaf_block}
+use Rattle.mesh_model.specs.Tree.Kinds.{is_leaf_block}
 use Rattle.refine_marks.proofs.MergedLevels.{ready_is}
 use Rattle.refine_marks.proofs.merging.is_ready.Goals as goal
 

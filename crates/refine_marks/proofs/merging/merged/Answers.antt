@@ -1,6 +1,6 @@
 use Rattle.std.proofs.Common.{sym, subst, ◌∙◌}
 use Rattle.block_tree.specs.GridOf.{grid_of}
-use Rattle.mesh_model.specs.Closure.{is_merged}
+use Rattle.mesh_model.specs.Tree.Closure.{is_merged}
 use Rattle.refine_marks.specs.Flags.{AreFlagsOf}
 use Rattle.refine_marks.specs.Planned.{mesh_of}
 use Rattle.refine_marks.proofs.Flagged.{written}

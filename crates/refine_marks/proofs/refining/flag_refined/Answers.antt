@@ -1,7 +1,7 @@
 use Rattle.std.proofs.Common.{◌≡◌, ◌-◌, suc, ap, subst, sym, ◌∙◌, arith}
 use Rattle.block_tree.specs.GridOf.{grid_of}
-use Rattle.mesh_model.specs.declared.Shape.{Shape}
-use Rattle.mesh_model.specs.Closure.{is_refined}
+use Rattle.mesh_model.specs.declared.geometry.Shape.{Shape}
+use Rattle.mesh_model.specs.Tree.Closure.{is_refined}
 use Rattle.refine_marks.specs.Closing.{refined_from, spread_to}
 use Rattle.refine_marks.specs.Flags.{AreFlagsOf}
 use Rattle.refine_marks.specs.Planned.{mesh_of}

@@ -2,7 +2,7 @@ use Rattle.std.proofs.Common.{length, sym, ap, ◌∙◌, arith}
 use Rattle.std.proofs.lemmas.List.Sums.{count_by-le-length}
 use Rattle.script_lang.proofs.Reading.{line_count, missing}
 use Rattle.std.specs.Option.{option_copied}
-use Rattle.mesh_model.specs.Words.{is_line_end}
+use Rattle.mesh_model.specs.Language.Words.{is_line_end}
 use Rattle.script_lang.proofs.reader.read.Goals as goal
 
 pub read_lines-requires-clause-few : goal.read_lines-requires-clause-few

@@ -1,6 +1,6 @@
 use Rattle.std.proofs.Common.{◌+◌, drop, ap, ◌∙◌, arith}
 use Rattle.std.proofs.lemmas.Result.{err_from_is_err_and}
-use Rattle.mesh_model.specs.Grammar.{lines_say}
+use Rattle.mesh_model.specs.Language.Grammar.{lines_say}
 use Rattle.script_lang.specs.Answers.{texts}
 use Rattle.script_lang.proofs.Reading.{read_after, stops, goes_on, halted}
 use Rattle.script_lang.proofs.reader.read_lines.Goals as goal

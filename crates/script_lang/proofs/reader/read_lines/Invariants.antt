@@ -1,5 +1,5 @@
 use Rattle.std.proofs.Common.{◌≡◌, ◌+◌, drop}
-use Rattle.mesh_model.specs.Grammar.{lines_say}
+use Rattle.mesh_model.specs.Language.Grammar.{lines_say}
 use Rattle.script_lang.specs.Answers.{texts, IsNarrow}
 use Rattle.script_lang.proofs.Reading.{read_after}
 use Rattle.script_lang.proofs.reader.read_lines.Given as goal

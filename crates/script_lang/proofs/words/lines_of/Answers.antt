@@ -1,7 +1,7 @@
 use Rattle.std.proofs.Common.{rules, tests}
 use Rattle.std.proofs.lemmas.Iterator.Consumers.{map_from_collect}
 use Rattle.std.proofs.lemmas.Iterator.Splits.{YieldsList-from_slice_split}
-use Rattle.mesh_model.specs.Words.{lines_of}
+use Rattle.mesh_model.specs.Language.Words.{lines_of}
 use Rattle.script_lang.proofs.words.lines_of.Goals as goal
 
 pub returns : goal.returns

@@ -1,6 +1,6 @@
 use Rattle.std.proofs.Common.{◌≡◌, bytes_eq, codes, true, false, sym, ap, ◌∙◌}
 use Rattle.script_lang.proofs.Digits.{number_zero, number_positive, number_negative, number_none}
-use Rattle.mesh_model.specs.Words.{after_minus, is_positive}
+use Rattle.mesh_model.specs.Language.Words.{after_minus, is_positive}
 use Rattle.script_lang.proofs.words.number.Goals as goal
 
 pub returns-then-eq : goal.returns-then-eq

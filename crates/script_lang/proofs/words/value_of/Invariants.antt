@@ -1,5 +1,5 @@
 use Rattle.std.proofs.Common.{◌≡◌, min, take}
-use Rattle.mesh_model.specs.Words.{digits_value}
+use Rattle.mesh_model.specs.Language.Words.{digits_value}
 use Rattle.script_lang.specs.declared.words.TheConstants.{BEYOND}
 use Rattle.script_lang.proofs.words.value_of.Given as goal
 

@@ -1,7 +1,7 @@
 use Rattle.std.proofs.Common.{rules, tests}
 use Rattle.std.proofs.lemmas.Iterator.Consumers.{map_from_collect, YieldsList-from_filter, YieldsList-at}
 use Rattle.std.proofs.lemmas.Iterator.Splits.{YieldsList-from_slice_split}
-use Rattle.mesh_model.specs.Words.{words_of, is_gap, is_filled}
+use Rattle.mesh_model.specs.Language.Words.{words_of, is_gap, is_filled}
 use Rattle.script_lang.proofs.words.words_of.Goals as goal
 
 pub returns : goal.returns

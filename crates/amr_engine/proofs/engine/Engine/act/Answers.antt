@@ -1,10 +1,10 @@
 use Rattle.std.proofs.Common.{◌<◌, ◌^◌, Ok, length, refl, sym, ap, subst, ◌∙◌, arith, eqb-true}
 use Rattle.amr_num.proofs.Machine.{kept}
-use Rattle.mesh_model.specs.declared.script.Command.TheVariants.{Advect, FillAll, FillBox, MarkDerefine, MarkRefine, PrintMesh, PrintSize, PrintTree, PrintVar, Total}
-use Rattle.mesh_model.specs.Commands.{IsCommandOf}
-use Rattle.mesh_model.specs.Fill.{fill_all, fill_box}
-use Rattle.mesh_model.specs.RangeWalk.{first_excess}
-use Rattle.mesh_model.specs.Stops.{refusal}
+use Rattle.mesh_model.specs.declared.language.script.Command.TheVariants.{Advect, FillAll, FillBox, MarkDerefine, MarkRefine, PrintMesh, PrintSize, PrintTree, PrintVar, Total}
+use Rattle.mesh_model.specs.Language.Commands.{IsCommandOf}
+use Rattle.mesh_model.specs.Fields.Fill.{fill_all, fill_box}
+use Rattle.mesh_model.specs.Fields.RangeWalk.{first_excess}
+use Rattle.mesh_model.specs.Run.Stops.{refusal}
 use Rattle.amr_engine.specs.Built.{is_built_command}
 use Rattle.amr_engine.specs.EngineMesh.{engine_mesh}
 use Rattle.amr_engine.specs.Plain.{declared_of, plain, values_of}

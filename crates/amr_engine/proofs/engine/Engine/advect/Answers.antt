@@ -1,5 +1,5 @@
 use Rattle.std.proofs.Common.{length, sym, ap, subst, ◌∙◌, refl}
-use Rattle.mesh_model.specs.declared.script.Command.TheVariants.{Advect}
+use Rattle.mesh_model.specs.declared.language.script.Command.TheVariants.{Advect}
 use Rattle.amr_engine.specs.Plain.{values_of}
 use Rattle.amr_engine.specs.Stopping.{Refuses}
 use Rattle.amr_engine.proofs.Acted.{allowed, hindered, is_step, kept_out_small, mesh_after_step, range_after, same_size, uniform_after}

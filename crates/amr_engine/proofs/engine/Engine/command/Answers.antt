@@ -1,8 +1,8 @@
 use Rattle.std.proofs.Common.{sym, subst}
-use Rattle.mesh_model.specs.Run.{KeepsOuts, KeepsTotals, StaysPositive}
-use Rattle.mesh_model.specs.Valid.{ValidMesh}
-use Rattle.mesh_model.proofs.RunLaws.{keeps_outs, keeps_totals, stays_positive}
-use Rattle.mesh_model.proofs.RunValid.{keeps_validity}
+use Rattle.mesh_model.specs.Run.Runs.{KeepsOuts, KeepsTotals, StaysPositive}
+use Rattle.mesh_model.specs.Fields.Valid.{ValidMesh}
+use Rattle.mesh_model.proofs.RunLemmas.RunLaws.{keeps_outs, keeps_totals, stays_positive}
+use Rattle.mesh_model.proofs.RunLemmas.RunValid.{keeps_validity}
 use Rattle.amr_engine.specs.Plain.{contents_of, plain}
 use Rattle.amr_engine.proofs.Lifted.{fits_whole}
 use Rattle.amr_engine.proofs.Whole.{whole_valid}

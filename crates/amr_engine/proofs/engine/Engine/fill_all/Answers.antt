@@ -1,6 +1,6 @@
 use Rattle.std.proofs.Common.{length, subst, sym, true, w64}
 use Rattle.std.proofs.lemmas.Int.{to_z-of_z}
-use Rattle.mesh_model.specs.Valid.{InRange}
+use Rattle.mesh_model.specs.Fields.Valid.{InRange}
 use Rattle.amr_engine.specs.Contents.{IsFilledBelow}
 use Rattle.amr_engine.specs.UniformMesh.{uniform_mesh}
 use Rattle.amr_engine.proofs.Acted.{fill_all_range}

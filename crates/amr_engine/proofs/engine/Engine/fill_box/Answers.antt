@@ -1,9 +1,9 @@
-use Rattle.mesh_model.specs.Fill.{is_in_box}
+use Rattle.mesh_model.specs.Fields.Fill.{is_in_box}
 use Rattle.std.proofs.Common.{length, subst, sym, w64}
 use Rattle.std.proofs.lemmas.Int.{to_z-of_z}
 use Rattle.amr_engine.specs.Contents.{IsFilledBelow, cell_at}
 use Rattle.amr_engine.specs.UniformMesh.{uniform_mesh}
-use Rattle.mesh_model.specs.Valid.{InRange}
+use Rattle.mesh_model.specs.Fields.Valid.{InRange}
 use Rattle.amr_engine.proofs.Acted.{fill_box_range}
 use Rattle.amr_engine.proofs.Vectors.{box_high, box_low, contents_in, whole_list, written_mesh, written_uniform}
 use Rattle.amr_engine.proofs.engine.Engine.fill_box.Goals as goal

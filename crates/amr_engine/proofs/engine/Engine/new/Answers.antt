@@ -1,6 +1,6 @@
 use Rattle.std.proofs.Common.{length, replicate, pos, sym, ap, ap₂, subst, ◌∙◌}
 use Rattle.std.proofs.lemmas.List.{length-replicate}
-use Rattle.mesh_model.specs.Valid.{InRange}
+use Rattle.mesh_model.specs.Fields.Valid.{InRange}
 use Rattle.amr_engine.specs.Contents.{IsUniform, cell_count}
 use Rattle.amr_engine.specs.UniformMesh.{uniform_mesh}
 use Rattle.block_tree.specs.Marked.{derefine_of, refine_of}

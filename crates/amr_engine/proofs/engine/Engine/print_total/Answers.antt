@@ -4,10 +4,10 @@ use Rattle.amr_num.specs.Numbers.{Within}
 use Rattle.amr_engine.proofs.Machine.{kept_128, wide}
 use Rattle.std.specs.Fmt.{signed_decimal}
 use Rattle.std.specs.Prelude.{codes}
-use Rattle.mesh_model.specs.Start.{start_leaves}
-use Rattle.mesh_model.specs.Texts.{text_line}
-use Rattle.mesh_model.specs.Totals as totals
-use Rattle.mesh_model.specs.Totals.{block_sum, sum_over}
+use Rattle.mesh_model.specs.Tree.Start.{start_leaves}
+use Rattle.mesh_model.specs.Run.Texts.{text_line}
+use Rattle.mesh_model.specs.Fields.Totals as totals
+use Rattle.mesh_model.specs.Fields.Totals.{block_sum, sum_over}
 use Rattle.amr_engine.specs.Contents.{content_in}
 use Rattle.amr_engine.specs.UniformMesh.{uniform_mesh}
 use Rattle.amr_report.specs.Printing.{Prints}

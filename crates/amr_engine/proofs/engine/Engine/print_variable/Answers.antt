@@ -1,7 +1,7 @@
 use Rattle.std.proofs.Common.{◌<◌, length, subst, sym, ◌∙◌, arith}
 use Rattle.block_tree.specs.GridOf.{grid_of}
-use Rattle.mesh_model.specs.Commands.{IsGroup}
-use Rattle.mesh_model.specs.Texts.{variable_text}
+use Rattle.mesh_model.specs.Language.Commands.{IsGroup}
+use Rattle.mesh_model.specs.Run.Texts.{variable_text}
 use Rattle.amr_report.specs.Printing.{Prints}
 use Rattle.amr_engine.specs.Plain.{values_of}
 use Rattle.amr_engine.proofs.Shown.{grid_shown, name_shown, views_shown}

@@ -1,5 +1,5 @@
 use Rattle.std.proofs.Common.{Some, sym, ap, subst, ◌∙◌}
-use Rattle.mesh_model.specs.declared.stops.Refusal.TheVariants as refusals
+use Rattle.mesh_model.specs.declared.run.stops.Refusal.TheVariants as refusals
 use Rattle.block_tree.specs.GridOf.{grid_of}
 use Rattle.block_tree.specs.Growing.{IsGrowStop, grid_after}
 use Rattle.amr_engine.proofs.Marking.{grid_is, marks_are, too_many}

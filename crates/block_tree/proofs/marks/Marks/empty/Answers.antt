@@ -1,6 +1,6 @@
 use Rattle.std.proofs.Common.{◌≤◌, length, sym, ap, ◌∙◌, subst}
-use Rattle.mesh_model.specs.Limits.{most_nodes}
-use Rattle.mesh_model.specs.Order.{nodes}
+use Rattle.mesh_model.specs.Geometry.Limits.{most_nodes}
+use Rattle.mesh_model.specs.Tree.Order.{nodes}
 use Rattle.block_tree.specs.GridOf.{grid_of}
 use Rattle.block_tree.proofs.Facts.{known}
 use Rattle.block_tree.proofs.Unmarked.{unmarked, fits_unmarked}

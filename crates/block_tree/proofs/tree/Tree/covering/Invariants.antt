@@ -1,5 +1,5 @@
 use Rattle.std.proofs.Common.{◌≡◌, ℕ, ◌<◌, false}
-use Rattle.mesh_model.specs.Plain.{is_leaf_block}
+use Rattle.mesh_model.specs.Tree.Kinds.{is_leaf_block}
 use Rattle.block_tree.specs.GridOf.{grid_of}
 use Rattle.block_tree.proofs.Covering.{over}
 use Rattle.block_tree.proofs.tree.Tree.covering.Given as goal

@@ -1,6 +1,6 @@
 use Rattle.std.proofs.Common.{◌≡◌, ◌+◌, not, sym, ap, ap₂, ◌∙◌, arith}
 use Rattle.amr_num.specs.declared.BlockAt.{BlockAt}
-use Rattle.mesh_model.specs.Blocks.{child_block}
+use Rattle.mesh_model.specs.Geometry.Blocks.{child_block}
 use Rattle.block_tree.specs.GridOf.{grid_of}
 use Rattle.block_tree.specs.Numbered.{IsNode, block_at}
 use Rattle.block_tree.proofs.Equal.{equal_test}

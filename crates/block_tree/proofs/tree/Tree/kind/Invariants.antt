@@ -1,6 +1,6 @@
 use Rattle.std.proofs.Common.{◌≡◌, ℕ, ◌<◌, false}
-use Rattle.mesh_model.specs.Blocks.{child_block}
-use Rattle.mesh_model.specs.Plain.{is_leaf_block}
+use Rattle.mesh_model.specs.Geometry.Blocks.{child_block}
+use Rattle.mesh_model.specs.Tree.Kinds.{is_leaf_block}
 use Rattle.block_tree.specs.GridOf.{grid_of}
 use Rattle.block_tree.proofs.tree.Tree.kind.Given as goal
 

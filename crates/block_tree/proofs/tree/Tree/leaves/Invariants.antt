@@ -1,6 +1,6 @@
 use Rattle.std.proofs.Common.{◌≡◌, length, filter, take}
-use Rattle.mesh_model.specs.Order.{nodes}
-use Rattle.mesh_model.specs.Plain.{is_leaf_block}
+use Rattle.mesh_model.specs.Tree.Order.{nodes}
+use Rattle.mesh_model.specs.Tree.Kinds.{is_leaf_block}
 use Rattle.block_tree.specs.GridOf.{grid_of}
 use Rattle.block_tree.proofs.tree.Tree.leaves.Given as goal
 

@@ -1,6 +1,6 @@
 use Rattle.std.proofs.Common.{◌≤◌, sym, ap, ◌∙◌, subst, arith, length, List}
 use Rattle.amr_num.specs.declared.BlockAt.{BlockAt}
-use Rattle.mesh_model.specs.Order.{IsIn, Sorted}
+use Rattle.mesh_model.specs.Tree.Order.{IsIn, Sorted}
 use Rattle.block_tree.specs.GridOf.{grid_of}
 use Rattle.block_tree.specs.Numbered.{block_in}
 use Rattle.block_tree.proofs.Facts.{known}

@@ -1,6 +1,6 @@
 use Rattle.std.proofs.Common.{◌≡◌, take}
 use Rattle.std.specs.Prelude.{flat_map}
-use Rattle.mesh_model.specs.Order.{nodes}
+use Rattle.mesh_model.specs.Tree.Order.{nodes}
 use Rattle.block_tree.specs.GridOf.{grid_of}
 use Rattle.block_tree.specs.Numbered.{blocks_of, flag_in}
 use Rattle.block_tree.proofs.Regrowing.{placed}

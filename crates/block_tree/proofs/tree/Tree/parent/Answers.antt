@@ -1,7 +1,7 @@
 use Rattle.std.proofs.Common.{◌≡◌, ◌<◌, MatchOption, ap, ◌∙◌, subst, arith}
 use Rattle.amr_num.specs.declared.BlockAt.{BlockAt}
-use Rattle.mesh_model.specs.Blocks.{parent_block}
-use Rattle.mesh_model.specs.Order.{IsIn, nodes}
+use Rattle.mesh_model.specs.Geometry.Blocks.{parent_block}
+use Rattle.mesh_model.specs.Tree.Order.{IsIn, nodes}
 use Rattle.block_tree.specs.GridOf.{grid_of}
 use Rattle.block_tree.specs.Numbered.{block_at, IsNumberOf}
 use Rattle.block_tree.proofs.Numbers.{looked_up, parent_in_all}

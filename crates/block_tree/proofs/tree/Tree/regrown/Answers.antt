@@ -1,7 +1,7 @@
 use Rattle.std.proofs.Common.{Bool, List, length, ap, arith}
 use Rattle.amr_num.specs.declared.BlockAt.{BlockAt}
-use Rattle.mesh_model.specs.Regrid.{regrown}
-use Rattle.mesh_model.specs.Valid.{FewNodes}
+use Rattle.mesh_model.specs.Tree.Regrown.{regrown}
+use Rattle.mesh_model.specs.Tree.ValidGrid.{FewNodes}
 use Rattle.block_tree.specs.GridOf.{grid_of}
 use Rattle.block_tree.specs.Numbered.{blocks_of, flag_in}
 use Rattle.block_tree.proofs.Facts.{known}

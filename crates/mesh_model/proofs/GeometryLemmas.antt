@@ -1,0 +1,2 @@
+pub mod ShapeLimits
+pub mod Ends

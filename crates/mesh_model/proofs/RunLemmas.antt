@@ -1,0 +1,2 @@
+pub mod RunValid
+pub mod RunLaws

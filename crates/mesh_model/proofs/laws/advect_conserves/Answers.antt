@@ -1,5 +1,0 @@
-use Rattle.mesh_model.proofs.Conserving as laws
-use Rattle.mesh_model.proofs.laws.advect_conserves.Goals as goal
-
-pub returns : goal.returns
-returns c m var n v valid = laws.advect_conserves m var n valid v

@@ -1,5 +1,0 @@
-use Rattle.mesh_model.proofs.KeptValid.{advect_valid}
-use Rattle.mesh_model.proofs.laws.advect_keeps_validity.Goals as goal
-
-pub returns : goal.returns
-returns c = advect_valid

@@ -1,8 +1,0 @@
-use Rattle.mesh_model.proofs.CellKinds.{wide_of}
-use Rattle.mesh_model.proofs.ValidGrid.{tree, deep_edge}
-use Rattle.mesh_model.proofs.EdgeSums.{edge_view_sum}
-use Rattle.mesh_model.proofs.Circling.{circulation_sum}
-use Rattle.mesh_model.proofs.laws.circulations_add_up.Goals as goal
-
-pub returns : goal.returns
-returns c g number f valid = circulation_sum g _ (λ e. edge_view_sum g (tree g valid) (wide_of g.shape valid.shape) number e (deep_edge g valid e)) f

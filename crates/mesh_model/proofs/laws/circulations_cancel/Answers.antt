@@ -1,5 +1,0 @@
-use Rattle.mesh_model.proofs.Circling as laws
-use Rattle.mesh_model.proofs.laws.circulations_cancel.Goals as goal
-
-pub returns : goal.returns
-returns c g at d = laws.circulations_cancel g at d

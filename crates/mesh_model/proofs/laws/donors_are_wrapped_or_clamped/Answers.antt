@@ -1,5 +1,0 @@
-use Rattle.mesh_model.proofs.Donors.{donor_inside}
-use Rattle.mesh_model.proofs.laws.donors_are_wrapped_or_clamped.Goals as goal
-
-pub returns : goal.returns
-returns c = donor_inside

@@ -1,5 +1,0 @@
-use Rattle.mesh_model.proofs.Ruled.{merged_may, greatest}
-use Rattle.mesh_model.proofs.laws.merged_is_greatest.Goals as goal
-
-pub returns : goal.returns
-returns c m valid = (merged_may m valid, greatest m valid)

@@ -1,5 +1,0 @@
-use Rattle.mesh_model.proofs.RegridBalance.{regrid_balances}
-use Rattle.mesh_model.proofs.laws.regrid_keeps_balance.Goals as goal
-
-pub returns : goal.returns
-returns c m valid h = regrid_balances m valid h

@@ -1,5 +1,0 @@
-use Rattle.mesh_model.proofs.Divergence as laws
-use Rattle.mesh_model.proofs.laws.uniform_balances.Goals as goal
-
-pub returns : goal.returns
-returns c m b valid = laws.uniform_balances m.grid valid.grid b

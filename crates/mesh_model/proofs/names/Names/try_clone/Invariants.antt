@@ -1,5 +1,0 @@
-use Rattle.std.proofs.Common.{◌≡◌, take, None}
-use Rattle.mesh_model.proofs.names.Names.try_clone.Given as goal
-
-abbrev pub invariant-loop-v : goal.invariant-loop-v
-invariant-loop-v l = l.names ≡ record { cells = take l.v l.self.cells; face = None; edge = None }

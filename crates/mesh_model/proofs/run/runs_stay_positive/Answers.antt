@@ -1,5 +1,0 @@
-use Rattle.mesh_model.proofs.RunLaws as laws
-use Rattle.mesh_model.proofs.run.runs_stay_positive.Goals as goal
-
-pub returns : goal.returns
-returns c m lines valid fit = laws.runs_stay_positive m lines valid fit

@@ -1,0 +1,8 @@
+-- The script language.
+pub mod Words
+pub mod Forms
+pub mod Declarations
+pub mod Actions
+pub mod Grammar
+pub mod Commands
+pub mod Reasons

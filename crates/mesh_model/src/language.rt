@@ -1,0 +1,4 @@
+//! The script language.
+
+pub mod names;
+pub mod script;
