@@ -14,9 +14,9 @@ use Rattle.mesh_model.specs.Geometry.Limits.{IsShape}
 use Rattle.mesh_model.specs.Tree.Order.{IsIn, nodes}
 use Rattle.mesh_model.specs.Tree.Kinds.{Grid}
 use Rattle.mesh_model.specs.Tree.Start.{start_grid}
-use Rattle.mesh_model.specs.Tree.ValidGrid.{InDomain}
-use Rattle.mesh_model.proofs.FieldLemmas.Nodes.{node_in}
-use Rattle.mesh_model.proofs.FieldLemmas.Regrown.{new_source}
+use Rattle.mesh_model.specs.Geometry.Blocks.{InDomain}
+use Rattle.mesh_model.proofs.TreeLemmas.Nodes.{node_in}
+use Rattle.mesh_model.proofs.TreeLemmas.Regrown.{new_source}
 use Rattle.mesh_model.proofs.TreeLemmas.Roots.{start_every, start_root}
 
 module _ (t : Tree) (s : Shape) (start : grid_of t ≡ start_grid s) (low : s.max ≡ 1) where

@@ -8,7 +8,7 @@ ghost use Rattle.mesh_model.specs.Tree.Order.{nodes};
 ghost use Rattle.mesh_model.specs.Fields.Plain.{Mesh};
 ghost use Rattle.mesh_model.specs.Tree.Reported as model;
 ghost use Rattle.mesh_model.specs.Run.TreeText.{nodes_text, tree_text};
-ghost use Rattle.mesh_model.specs.Tree.ValidGrid.{InDomain};
+ghost use Rattle.mesh_model.specs.Geometry.Blocks.{InDomain};
 ghost use Rattle.std.specs.Prelude.{◌≡◌, ◌+◌, ◌*◌, ◌<◌, ◌≤◌, length};
 
 use crate::line::Line;

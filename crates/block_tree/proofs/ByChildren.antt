@@ -4,7 +4,7 @@ use Rattle.std.specs.List.{list_any}
 use Rattle.amr_num.specs.declared.BlockAt.{BlockAt}
 use Rattle.mesh_model.specs.Geometry.Blocks.{child_block, children}
 use Rattle.mesh_model.specs.Tree.Kinds.{Grid, is_leaf_block}
-use Rattle.mesh_model.proofs.FieldLemmas.Closure.{in_children, from_children}
+use Rattle.mesh_model.proofs.TreeLemmas.Closure.{in_children, from_children}
 use Rattle.mesh_model.proofs.TreeLemmas.Tests.{refuted, found, there}
 use Rattle.block_tree.specs.Numbered.{IsNumberOf}
 use Rattle.block_tree.specs.Kinds.{kind_of}

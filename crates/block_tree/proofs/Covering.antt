@@ -12,7 +12,8 @@ use Rattle.mesh_model.specs.declared.geometry.Shape.{Shape}
 use Rattle.mesh_model.specs.Geometry.Coordinates.{Inside, on, extent}
 use Rattle.mesh_model.specs.Tree.Order.{IsIn}
 use Rattle.mesh_model.specs.Tree.Kinds.{Grid, block_of, is_leaf_block, is_split, is_split_block}
-use Rattle.mesh_model.specs.Tree.ValidGrid.{LiesIn, InDomain, Valid}
+use Rattle.mesh_model.specs.Tree.ValidGrid.{Valid}
+use Rattle.mesh_model.specs.Geometry.Blocks.{LiesIn, InDomain}
 use Rattle.mesh_model.proofs.FieldLemmas.Beside.{block_in_domain}
 use Rattle.mesh_model.proofs.TreeLemmas.Levels.{home}
 use Rattle.mesh_model.proofs.GeometryLemmas.ShapeLimits.{cells_some}

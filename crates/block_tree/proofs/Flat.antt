@@ -7,8 +7,8 @@ use Rattle.mesh_model.specs.Tree.Order.{IsIn, nodes}
 use Rattle.mesh_model.specs.Tree.Kinds.{Grid, is_leaf_block}
 use Rattle.mesh_model.specs.Tree.Regrown.{regrown}
 use Rattle.mesh_model.specs.Tree.Start.{start_grid}
-use Rattle.mesh_model.proofs.FieldLemmas.Nodes.{node_in}
-use Rattle.mesh_model.proofs.FieldLemmas.Regrown.{new_source}
+use Rattle.mesh_model.proofs.TreeLemmas.Nodes.{node_in}
+use Rattle.mesh_model.proofs.TreeLemmas.Regrown.{new_source}
 use Rattle.mesh_model.proofs.TreeLemmas.Roots.{start_root}
 use Rattle.mesh_model.proofs.TreeLemmas.Tiling.{leaf_says, same_level}
 use Rattle.block_tree.specs.declared.tree.Tree.{Tree}

@@ -3,14 +3,14 @@ use Rattle.std.proofs.Common.{◌≡◌, ℕ, zero, suc, ◌<◌, Bool, true, fa
 use Rattle.std.proofs.lemmas.Bool.{cases_Bool, cases_lt}
 use Rattle.std.proofs.lemmas.List.Elements.{filter-append}
 use Rattle.amr_num.specs.declared.BlockAt.{BlockAt}
-use Rattle.mesh_model.specs.Geometry.Blocks.{child_block, parent_block, is_first_child}
+use Rattle.mesh_model.specs.Geometry.Blocks.{child_block, parent_block, is_first_child, LiesIn, InDomain}
 use Rattle.mesh_model.specs.Tree.Order.{IsIn, begun_at, nodes}
 use Rattle.mesh_model.specs.Tree.Kinds.{Grid, lies_in, is_leaf_block, is_split_block}
-use Rattle.mesh_model.specs.Tree.ValidGrid.{LiesIn, InDomain, Valid}
-use Rattle.mesh_model.proofs.FieldLemmas.Nodes.{node_in, in_node}
+use Rattle.mesh_model.specs.Tree.ValidGrid.{Valid}
+use Rattle.mesh_model.proofs.TreeLemmas.Nodes.{node_in, in_node}
 use Rattle.mesh_model.proofs.TreeLemmas.Tests.{refuted, found, there, and_both, in_either}
 use Rattle.mesh_model.proofs.TreeLemmas.Tiling.{both_true, lies_says, lies_shows, lies_trans, lies_refl, same_level, finest, finest_in, child_in, child_of_split, domain_up, leaf_says, leaf_shows, split_says, split_shows}
-use Rattle.mesh_model.proofs.FieldLemmas.Regrown.{is_parent}
+use Rattle.mesh_model.proofs.TreeLemmas.Regrown.{is_parent}
 use Rattle.mesh_model.proofs.TreeLemmas.Levels.{is_child}
 use Rattle.block_tree.specs.Listed.{is_above, lowest}
 use Rattle.block_tree.proofs.Members.{filter_flat, filter_none, filter_one}

@@ -4,14 +4,14 @@ use Rattle.std.proofs.Math.Nat.{mul-le-mul_right}
 use Rattle.std.proofs.lemmas.Bool.{cases_lt}
 use Rattle.amr_num.specs.declared.BlockAt.{BlockAt}
 use Rattle.mesh_model.specs.declared.geometry.Shape.{Shape}
-use Rattle.mesh_model.specs.Geometry.Blocks.{child_block}
+use Rattle.mesh_model.specs.Geometry.Blocks.{child_block, InDomain}
 use Rattle.mesh_model.specs.Geometry.Limits.{IsShape}
 use Rattle.mesh_model.specs.Tree.Order.{IsIn, Sorted, key, nodes}
 use Rattle.mesh_model.specs.Tree.Kinds.{Grid, is_leaf_block, is_split_block}
 use Rattle.mesh_model.specs.Fields.Plain.{Mesh}
-use Rattle.mesh_model.specs.Tree.ValidGrid.{InDomain, Valid, FewNodes}
-use Rattle.mesh_model.proofs.FieldLemmas.Nodes.{nodes_sorted}
-use Rattle.mesh_model.proofs.FieldLemmas.Sorting.{morton_child}
+use Rattle.mesh_model.specs.Tree.ValidGrid.{Valid, FewNodes}
+use Rattle.mesh_model.proofs.TreeLemmas.Nodes.{nodes_sorted}
+use Rattle.mesh_model.proofs.TreeLemmas.Sorting.{morton_child}
 use Rattle.morton_key.specs.Keyed.{HasKey}
 use Rattle.block_tree.specs.Numbered.{block_in}
 use Rattle.block_tree.proofs.Members.{in_at, at_in, sorted_at, before_at}

@@ -4,11 +4,10 @@ use Rattle.std.proofs.lemmas.Bool.{cases_Bool}
 use Rattle.std.proofs.lemmas.List.{get_or_read}
 use Rattle.amr_num.specs.declared.BlockAt.{BlockAt}
 use Rattle.mesh_model.specs.declared.geometry.Shape.{Shape}
-use Rattle.mesh_model.specs.Geometry.Blocks.{child_block, parent_block}
+use Rattle.mesh_model.specs.Geometry.Blocks.{child_block, parent_block, InDomain}
 use Rattle.mesh_model.specs.Geometry.Limits.{most_nodes}
 use Rattle.mesh_model.specs.Tree.Order.{IsIn, Sorted, nodes}
 use Rattle.mesh_model.specs.Tree.Kinds.{is_leaf_block, is_split_block}
-use Rattle.mesh_model.specs.Tree.ValidGrid.{InDomain}
 use Rattle.mesh_model.proofs.TreeLemmas.Tests.{refuted}
 use Rattle.mesh_model.proofs.TreeLemmas.Tiling.{leaf_says}
 use Rattle.morton_key.specs.Keyed.{HasKey}

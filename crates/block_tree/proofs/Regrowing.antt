@@ -5,16 +5,16 @@ use Rattle.std.proofs.lemmas.Bool.{cases_Bool}
 use Rattle.std.proofs.lemmas.List.{append-nil}
 use Rattle.std.proofs.lemmas.Grind.{flat_map-append}
 use Rattle.amr_num.specs.declared.BlockAt.{BlockAt}
-use Rattle.mesh_model.specs.Geometry.Blocks.{child_block, parent_block, children, is_first_child}
+use Rattle.mesh_model.specs.Geometry.Blocks.{child_block, parent_block, children, is_first_child, LiesIn}
 use Rattle.mesh_model.specs.Tree.Order.{IsIn, Sorted, begun_at, nodes}
 use Rattle.mesh_model.specs.Tree.Kinds.{Grid}
 use Rattle.mesh_model.specs.Tree.Regrown.{regrown}
 use Rattle.mesh_model.specs.Tree.Regrown as regrid
-use Rattle.mesh_model.specs.Tree.ValidGrid.{LiesIn, Valid}
-use Rattle.mesh_model.proofs.FieldLemmas.Closure.{parent_of_child}
-use Rattle.mesh_model.proofs.FieldLemmas.Regrown.{Fit, takes_back, place_refined, place_merged, place_kept, regrown_tiles}
-use Rattle.mesh_model.proofs.FieldLemmas.Ruled.{own_octant}
-use Rattle.mesh_model.proofs.FieldLemmas.Sorting.{regrown_sorted}
+use Rattle.mesh_model.specs.Tree.ValidGrid.{Valid}
+use Rattle.mesh_model.proofs.TreeLemmas.Closure.{parent_of_child}
+use Rattle.mesh_model.proofs.TreeLemmas.Regrown.{Fit, takes_back, place_refined, place_merged, place_kept, regrown_tiles}
+use Rattle.mesh_model.proofs.TreeLemmas.Ruled.{own_octant}
+use Rattle.mesh_model.proofs.TreeLemmas.Sorting.{regrown_sorted}
 use Rattle.mesh_model.proofs.TreeLemmas.Tests.{refuted, and_left, and_right, and_both, all_three}
 use Rattle.block_tree.specs.Growing.{MayRegrow}
 use Rattle.block_tree.specs.Places.{is_taken_back, in_place}

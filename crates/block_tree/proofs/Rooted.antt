@@ -3,7 +3,7 @@ use Rattle.std.proofs.Common.{◌≡◌, ℕ, ◌<◌, ap, arith, [], ◌∷◌,
 use Rattle.std.specs.Prelude.{nat_lt, ◌&&◌}
 use Rattle.mesh_model.specs.declared.geometry.Shape.{Shape}
 use Rattle.mesh_model.specs.Tree.Start.{root_at, is_root, root_there}
-use Rattle.mesh_model.specs.Tree.ValidGrid.{InDomain}
+use Rattle.mesh_model.specs.Geometry.Blocks.{InDomain}
 use Rattle.mesh_model.proofs.TreeLemmas.Tests.{refuted, all_three, and_both}
 
 module _ (s : Shape) (m : ℕ) where

@@ -5,8 +5,7 @@ use Rattle.amr_num.specs.declared.BlockAt.{BlockAt}
 use Rattle.amr_num.specs.declared.CellAt.{CellAt}
 use Rattle.mesh_model.specs.Tree.Kinds.{Grid, block_of, is_leaf_block}
 use Rattle.mesh_model.specs.Tree.Order.{nodes}
-use Rattle.mesh_model.specs.Geometry.Blocks.{is_same_block}
-use Rattle.mesh_model.specs.Tree.ValidGrid.{LiesIn}
+use Rattle.mesh_model.specs.Geometry.Blocks.{is_same_block, LiesIn}
 
 -- there is a node with this number
 abbrev pub IsNode : Grid → ℕ → Type 0

@@ -5,7 +5,7 @@ ghost use Rattle.mesh_model.specs.Geometry.Blocks as model;
 ghost use Rattle.mesh_model.specs.Geometry.Limits.{IsShape};
 ghost use Rattle.mesh_model.specs.Geometry.Limits as limits;
 ghost use Rattle.mesh_model.specs.Tree.Start as start;
-ghost use Rattle.mesh_model.specs.Tree.ValidGrid.{InDomain};
+ghost use Rattle.mesh_model.specs.Geometry.Blocks.{InDomain};
 ghost use Rattle.morton_key.specs.Keyed.{HasKey};
 
 use amr_num::{BlockAt, CellAt};

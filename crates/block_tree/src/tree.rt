@@ -49,7 +49,8 @@ impl Tree {
     ghost use Rattle.mesh_model.specs.Tree.Order.{IsIn, nodes};
     ghost use Rattle.mesh_model.specs.Tree.Kinds.{block_of, is_leaf_block, is_split};
     ghost use Rattle.mesh_model.specs.Tree.Start.{start_grid};
-    ghost use Rattle.mesh_model.specs.Tree.ValidGrid.{FewNodes, InDomain, LiesIn};
+    ghost use Rattle.mesh_model.specs.Tree.ValidGrid.{FewNodes};
+    ghost use Rattle.mesh_model.specs.Geometry.Blocks.{InDomain, LiesIn};
     ghost use Rattle.std.specs.Prelude.{◌≡◌, ◌*◌, ◌<◌, ◌≤◌, ◌⊎◌};
     ghost use Rattle.std.specs.Prelude.{IfErr, IfNone, IfOk, IfSome, MatchOption, OnOk, OnSome, false, true, length};
 

@@ -27,10 +27,6 @@ pub mod FieldsKept
 pub mod Beside
 pub mod ValidGrid
 pub mod Round
-pub mod Closure
-pub mod Regrown
-pub mod Ruled
-pub mod Sorting
 pub mod Means
 pub mod LeafCells
 pub mod Start
@@ -40,7 +36,6 @@ pub mod EdgeBounds
 pub mod ZeroViews
 pub mod KeptValid
 pub mod Donors
-pub mod Nodes
 pub mod WalkExamples
 pub mod AdvectStops
 pub mod Walking

@@ -4,3 +4,8 @@ pub mod Touching
 pub mod Levels
 pub mod Morton
 pub mod Roots
+pub mod Closure
+pub mod Ruled
+pub mod Sorting
+pub mod Regrown
+pub mod Nodes

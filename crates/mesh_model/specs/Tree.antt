@@ -6,3 +6,5 @@ pub mod Kinds
 pub mod ValidGrid
 pub mod Regrown
 pub mod Start
+pub mod MarkedGrid
+pub mod Growth

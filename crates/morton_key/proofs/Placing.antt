@@ -6,10 +6,9 @@ use Rattle.std.proofs.lemmas.Nat.{pow_pos, shl_below, shl-shr, shr_below, div-ad
 use Rattle.std.proofs.lemmas.Bool.{cases_lt}
 use Rattle.amr_num.specs.declared.BlockAt.{BlockAt}
 use Rattle.amr_num.specs.MortonKey.{interleave, low_end, morton, key}
-use Rattle.mesh_model.specs.Geometry.Blocks.{child_block}
-use Rattle.mesh_model.specs.Tree.ValidGrid.{LiesIn}
+use Rattle.mesh_model.specs.Geometry.Blocks.{child_block, LiesIn}
 use Rattle.mesh_model.proofs.TreeLemmas.Morton.{shifted, digits}
-use Rattle.mesh_model.proofs.FieldLemmas.Sorting.{span, span_pos, morton_child}
+use Rattle.mesh_model.proofs.TreeLemmas.Sorting.{span, span_pos, morton_child}
 use Rattle.morton_key.specs.Bits.{respaced}
 use Rattle.morton_key.specs.Keyed.{HasKey}
 use Rattle.morton_key.proofs.Interleaving.{gather_x, gather_y, gather_z}

@@ -2,8 +2,7 @@
 use Rattle.std.specs.Prelude.{◌≡◌, ◌≢◌, ℕ, ◌<◌}
 use Rattle.amr_num.specs.declared.BlockAt.{BlockAt}
 use Rattle.amr_num.specs.MortonKey.{key}
-use Rattle.mesh_model.specs.Geometry.Blocks.{child_block}
-use Rattle.mesh_model.specs.Tree.ValidGrid.{LiesIn}
+use Rattle.mesh_model.specs.Geometry.Blocks.{child_block, LiesIn}
 use Rattle.morton_key.specs.Keyed.{HasKey}
 
 -- blocks with the same key are the same

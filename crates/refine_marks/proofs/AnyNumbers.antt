@@ -4,7 +4,7 @@ use Rattle.std.specs.List.{list_any, list_all}
 use Rattle.amr_num.specs.declared.BlockAt.{BlockAt}
 use Rattle.mesh_model.specs.Geometry.Blocks.{child_block, children, parent_block}
 use Rattle.mesh_model.specs.Tree.Closure.{refined, is_refined, is_ready, is_blocked, merged, is_merged}
-use Rattle.mesh_model.specs.Fields.Laws.{MayRefine, MayMerge}
+use Rattle.mesh_model.specs.Tree.Growth.{MayRefine, MayMerge}
 use Rattle.mesh_model.specs.Tree.Kinds.{Grid, is_leaf_block}
 use Rattle.mesh_model.specs.Fields.Plain.{Mesh}
 use Rattle.mesh_model.specs.Tree.Regrown.{new_grid, regrown}

@@ -8,7 +8,7 @@ use Rattle.mesh_model.specs.Tree.Order.{IsIn, nodes}
 use Rattle.mesh_model.specs.Tree.Kinds.{Grid, is_leaf_block}
 use Rattle.mesh_model.specs.Geometry.Touch.{touches}
 use Rattle.mesh_model.specs.Tree.ValidGrid.{Valid}
-use Rattle.mesh_model.proofs.FieldLemmas.Nodes.{in_node}
+use Rattle.mesh_model.proofs.TreeLemmas.Nodes.{in_node}
 use Rattle.mesh_model.proofs.TreeLemmas.Tests.{all_three, all_four, found, there, refuted}
 use Rattle.mesh_model.proofs.TreeLemmas.Tiling.{leaf_says, leaf_shows, lies_refl}
 use Rattle.block_tree.specs.Numbered.{IsNode, block_at, flag_in}

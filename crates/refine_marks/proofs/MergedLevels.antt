@@ -11,9 +11,9 @@ use Rattle.mesh_model.specs.Fields.Plain.{Mesh}
 use Rattle.mesh_model.specs.Geometry.Touch.{touches}
 use Rattle.mesh_model.specs.Tree.ValidGrid.{Valid}
 use Rattle.mesh_model.specs.Fields.Valid.{ValidMesh}
-use Rattle.mesh_model.proofs.FieldLemmas.Closure.{from_children}
+use Rattle.mesh_model.proofs.TreeLemmas.Closure.{from_children}
 use Rattle.mesh_model.proofs.TreeLemmas.Levels.{is_child}
-use Rattle.mesh_model.proofs.FieldLemmas.Ruled.{merged_may}
+use Rattle.mesh_model.proofs.TreeLemmas.Ruled.{merged_may}
 use Rattle.mesh_model.proofs.TreeLemmas.Tests.{and_left, for_all, or_right, refuted}
 use Rattle.mesh_model.proofs.TreeLemmas.Tiling.{child_in, leaf_says}
 use Rattle.block_tree.proofs.Leaves.{leaf_whole}

@@ -7,10 +7,10 @@ use Rattle.mesh_model.specs.Tree.Kinds.{Grid}
 use Rattle.mesh_model.specs.Fields.Plain.{Mesh}
 use Rattle.mesh_model.specs.Tree.Regrown.{new_grid, regrown}
 use Rattle.mesh_model.specs.Fields.Valid.{ValidMesh}
-use Rattle.mesh_model.proofs.FieldLemmas.Closure.{refined_leaf}
+use Rattle.mesh_model.proofs.TreeLemmas.Closure.{refined_leaf}
 use Rattle.mesh_model.proofs.TreeLemmas.Levels.{is_child}
-use Rattle.mesh_model.proofs.FieldLemmas.Nodes.{in_node}
-use Rattle.mesh_model.proofs.FieldLemmas.Ruled.{room, refined_may, least, merged_may, greatest}
+use Rattle.mesh_model.proofs.TreeLemmas.Nodes.{in_node}
+use Rattle.mesh_model.proofs.TreeLemmas.Ruled.{room, refined_may, least, merged_may, greatest}
 use Rattle.mesh_model.proofs.TreeLemmas.Tiling.{child_in, lies_refl}
 use Rattle.mesh_model.specs.Geometry.Blocks.{child_block}
 use Rattle.block_tree.specs.declared.marks.Marks.{Marks}

@@ -9,8 +9,8 @@ use Rattle.mesh_model.specs.Tree.Kinds.{Grid, is_leaf_block}
 use Rattle.mesh_model.specs.Fields.Plain.{Mesh}
 use Rattle.mesh_model.specs.Geometry.Touch.{touches}
 use Rattle.mesh_model.specs.Fields.Valid.{ValidMesh}
-use Rattle.mesh_model.proofs.FieldLemmas.Closure.{refined_leaf}
-use Rattle.mesh_model.proofs.FieldLemmas.Ruled.{room, refined_may}
+use Rattle.mesh_model.proofs.TreeLemmas.Closure.{refined_leaf}
+use Rattle.mesh_model.proofs.TreeLemmas.Ruled.{room, refined_may}
 use Rattle.mesh_model.proofs.TreeLemmas.Tests.{and_left, or_right, refuted}
 use Rattle.mesh_model.proofs.TreeLemmas.Tiling.{leaf_shows}
 use Rattle.refine_marks.specs.Closing.{refined_from, spread_to}

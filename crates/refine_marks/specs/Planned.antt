@@ -1,7 +1,7 @@
 -- What marks on a tree say of a mesh, and what a plan says of its closure.
 use Rattle.std.specs.Prelude.{◌≡◌, Bool, true, pos}
 use Rattle.amr_num.specs.declared.BlockAt.{BlockAt}
-use Rattle.mesh_model.specs.Fields.Laws.{MayRefine, MayMerge}
+use Rattle.mesh_model.specs.Tree.Growth.{MayRefine, MayMerge}
 use Rattle.mesh_model.specs.Tree.Kinds.{Grid}
 use Rattle.mesh_model.specs.Fields.Plain.{Mesh}
 use Rattle.mesh_model.specs.Fields.VariableNames.{no_names}

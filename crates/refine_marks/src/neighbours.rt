@@ -6,7 +6,7 @@ ghost use Rattle.block_tree.specs.GridOf.{grid_of};
 ghost use Rattle.block_tree.specs.Numbered.{IsNode, block_at, flag_in};
 ghost use Rattle.mesh_model.specs.Tree.Kinds.{is_leaf_block};
 ghost use Rattle.mesh_model.specs.Geometry.Touch as touch;
-ghost use Rattle.mesh_model.specs.Tree.ValidGrid.{InDomain};
+ghost use Rattle.mesh_model.specs.Geometry.Blocks.{InDomain};
 ghost use Rattle.refine_marks.specs.Flags.{AreFlagsAt, IsOnePerNode, touches_any};
 
 use amr_num::BlockAt;

@@ -12,7 +12,8 @@ use Rattle.mesh_model.specs.declared.geometry.Shape.{Shape}
 use Rattle.mesh_model.specs.Geometry.Coordinates.{sub_cell, sub_face, face_of, after, below, above, wrapped, moved, with, on, extent, roots, is_periodic, low_cell, high_cell, Inside}
 use Rattle.mesh_model.specs.Tree.Kinds.{Grid, block_of, is_split, holds, is_split_face}
 use Rattle.mesh_model.specs.Geometry.Touch.{low_end, high_end, place}
-use Rattle.mesh_model.specs.Tree.ValidGrid.{InDomain, Valid}
+use Rattle.mesh_model.specs.Tree.ValidGrid.{Valid}
+use Rattle.mesh_model.specs.Geometry.Blocks.{InDomain}
 use Rattle.mesh_model.proofs.TreeLemmas.Tests.{refuted}
 use Rattle.mesh_model.proofs.TreeLemmas.Tiling.{IsChild, child_of_whole}
 use Rattle.mesh_model.proofs.TreeLemmas.Touching.{Meet, Touch, meet_wider, meet_times, meet_over}

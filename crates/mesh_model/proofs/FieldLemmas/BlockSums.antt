@@ -16,7 +16,8 @@ use Rattle.mesh_model.specs.Geometry.Coordinates.{extent}
 use Rattle.mesh_model.specs.Tree.Kinds.{Grid, lies_in, is_leaf_block, block_of}
 use Rattle.mesh_model.specs.Fields.Plain.{on_cells}
 use Rattle.mesh_model.specs.Tree.Order.{IsIn, Sorted}
-use Rattle.mesh_model.specs.Tree.ValidGrid.{InDomain, Valid}
+use Rattle.mesh_model.specs.Tree.ValidGrid.{Valid}
+use Rattle.mesh_model.specs.Geometry.Blocks.{InDomain}
 use Rattle.mesh_model.specs.Fields.Totals.{box_sum, level_sum, leaf_sum, block_sum, sum_over}
 use Rattle.mesh_model.proofs.FieldLemmas.LeafSums.{on_leaf, off_leaf}
 use Rattle.mesh_model.proofs.FieldLemmas.Sums.{box_same, box_add, box_zero, sum_below_zero}

@@ -12,7 +12,8 @@ use Rattle.mesh_model.specs.declared.geometry.Shape.{Shape}
 use Rattle.mesh_model.specs.Geometry.Coordinates.{roots, extent, on, Inside}
 use Rattle.mesh_model.specs.Tree.Kinds.{Grid, is_leaf, is_split, block_of, is_leaf_block, is_split_block}
 use Rattle.mesh_model.specs.Tree.Order.{IsIn}
-use Rattle.mesh_model.specs.Tree.ValidGrid.{LiesIn, InDomain, Tiles}
+use Rattle.mesh_model.specs.Tree.ValidGrid.{Tiles}
+use Rattle.mesh_model.specs.Geometry.Blocks.{LiesIn, InDomain}
 use Rattle.mesh_model.specs.Geometry.Limits.{IsShape}
 use Rattle.mesh_model.proofs.FieldLemmas.CellSums.{TreeLike}
 use Rattle.mesh_model.proofs.FieldLemmas.CellTree.{tree_of_tiles}

@@ -11,7 +11,7 @@ use Rattle.mesh_model.specs.Geometry.Outside.{inside_cell, inside_face}
 use Rattle.amr_num.specs.Numbers.{part, carry}
 use Rattle.mesh_model.specs.Fields.VariableNames.{no_names}
 use Rattle.mesh_model.specs.Tree.Kinds.{Grid, is_leaf_block, is_split_block, is_leaf_face, is_split_face}
-use Rattle.mesh_model.specs.Fields.Plain.{Mesh}
+use Rattle.mesh_model.specs.Fields.Plain.{marked, Mesh}
 use Rattle.mesh_model.specs.Geometry.Coordinates.{wrapped}
 use Rattle.mesh_model.specs.Fields.Views.{sum_down, view_at, face_down}
 use Rattle.mesh_model.specs.Geometry.Touch.{touches, stretches_meet, low_end, high_end}
@@ -76,14 +76,14 @@ corner_marked = mesh 2 cube_of_roots (λ c. pos 0) (root 0 0 0)
 corner_child : BlockAt
 corner_child = record { level = 1; x = 0; y = 0; z = 0 }
 
-closure_reaches_across_corners : length (new_grid corner_marked).leaves ≡ 71
+closure_reaches_across_corners : length (new_grid (marked corner_marked)).leaves ≡ 71
 unfolding corner_marked cube_of_roots layer plane mesh periodic root is_leaf_block refined merged is_ready is_blocked touches stretches_meet low_end high_end
 closure_reaches_across_corners = refl
 
 corner_child_marked : Mesh
-corner_child_marked = mesh 2 (new_grid corner_marked) (λ c. pos 0) corner_child
+corner_child_marked = mesh 2 (new_grid (marked corner_marked)) (λ c. pos 0) corner_child
 
-closure_reaches_from_the_finer_level : length (new_grid corner_child_marked).leaves ≡ 127
+closure_reaches_from_the_finer_level : length (new_grid (marked corner_child_marked)).leaves ≡ 127
 unfolding corner_child_marked corner_child corner_marked cube_of_roots layer plane mesh periodic root is_leaf_block refined merged is_ready is_blocked touches stretches_meet low_end high_end
 closure_reaches_from_the_finer_level = refl
 
@@ -92,7 +92,7 @@ two_roots : Grid
 two_roots = record { shape = record { rx = 2; ry = 1; rz = 1; n = 4; g = 1; min = 0; max = 1; sides = Closed ∷ Closed ∷ Periodic ∷ Periodic ∷ Periodic ∷ Periodic ∷ [] }; leaves = root 0 0 0 ∷ root 1 0 0 ∷ [] }
 
 left_root_refined : Grid
-left_root_refined = new_grid (mesh 1 two_roots (λ c. pos 0) (root 0 0 0))
+left_root_refined = new_grid (marked (mesh 1 two_roots (λ c. pos 0) (root 0 0 0)))
 
 five_beside_the_jump : CellAt → ℤ
 five_beside_the_jump c = cond (eqb c.level 1 && is_at 7 0 0 c) (pos 5) (pos 0)
@@ -134,11 +134,11 @@ held_back = record {
 }
 
 -- nothing is merged: the refined leaf is one of the first root's children, and touches the second root, whose children could go but for it
-refined_leaf_holds_its_neighbours : ◌≡◌ {A = List Bool} (is_merged held_back (root 0 0 0) ∷ is_merged held_back (root 1 0 0) ∷ []) (false ∷ false ∷ [])
+refined_leaf_holds_its_neighbours : ◌≡◌ {A = List Bool} (is_merged (marked held_back) (root 0 0 0) ∷ is_merged (marked held_back) (root 1 0 0) ∷ []) (false ∷ false ∷ [])
 unfolding held_back two_refined four_roots periodic root is_leaf_block refined merged is_ready is_blocked touches stretches_meet low_end high_end
 refined_leaf_holds_its_neighbours = refl
 
-leaves_held_back : length (new_grid held_back).leaves ≡ 25
+leaves_held_back : length (new_grid (marked held_back)).leaves ≡ 25
 unfolding held_back two_refined four_roots periodic root is_leaf_block refined merged is_ready is_blocked touches stretches_meet low_end high_end
 leaves_held_back = refl
 

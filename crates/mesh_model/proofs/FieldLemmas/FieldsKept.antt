@@ -6,7 +6,7 @@ use Rattle.amr_num.specs.declared.CellAt.{CellAt}
 use Rattle.amr_num.specs.declared.FaceAt.{FaceAt}
 use Rattle.amr_num.specs.declared.EdgeAt.{EdgeAt}
 use Rattle.mesh_model.specs.Tree.Kinds.{Grid, is_leaf, is_leaf_face, is_leaf_edge}
-use Rattle.mesh_model.specs.Fields.Plain.{Mesh, on_faces, on_edges}
+use Rattle.mesh_model.specs.Fields.Plain.{marked, Mesh, on_faces, on_edges}
 use Rattle.mesh_model.specs.Geometry.Canonical.{is_canonical, is_canonical_edge}
 use Rattle.mesh_model.specs.Fields.Valid.{OnLeaves, ValidMesh}
 use Rattle.mesh_model.specs.Fields.Circulation.{net_flux}
@@ -26,9 +26,9 @@ edge_off g k e h = rw h refl
 
 pub regrid_on_leaves : (m : Mesh) → OnLeaves (regrid m)
 regrid_on_leaves m = record {
-  cells = λ v. off_leaf (new_grid m) (cell_view m.grid (m.cells v));
-  faces = face_off (new_grid m) (face_view m.grid m.faces);
-  edges = edge_off (new_grid m) (edge_view m.grid m.edges);
+  cells = λ v. off_leaf (new_grid (marked m)) (cell_view m.grid (m.cells v));
+  faces = face_off (new_grid (marked m)) (face_view m.grid m.faces);
+  edges = edge_off (new_grid (marked m)) (edge_view m.grid m.edges);
 }
 
 pub advect_on_leaves : (m : Mesh) (var : ℕ) (n : Speeds) → OnLeaves m → OnLeaves (advect m var n)

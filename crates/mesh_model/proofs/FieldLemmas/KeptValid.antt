@@ -6,11 +6,11 @@ use Rattle.amr_num.specs.declared.BlockAt.{BlockAt}
 use Rattle.amr_num.specs.declared.FaceAt.{FaceAt}
 use Rattle.mesh_model.specs.Geometry.Blocks.{is_first_child, parent_block}
 use Rattle.mesh_model.specs.Geometry.Limits.{most_nodes}
-use Rattle.mesh_model.specs.Fields.Plain.{Mesh, on_faces}
+use Rattle.mesh_model.specs.Fields.Plain.{marked, Mesh, on_faces}
 use Rattle.mesh_model.specs.Tree.Kinds.{is_leaf, is_leaf_face, is_leaf_edge}
 use Rattle.mesh_model.specs.Geometry.Canonical.{is_canonical, is_canonical_edge}
 use Rattle.mesh_model.specs.Tree.Order.{begun_at, nodes}
-use Rattle.mesh_model.specs.Fields.Valid.{ValidMesh, InRange, OfDeclared}
+use Rattle.mesh_model.specs.Fields.Valid.{valid_marked, ValidMesh, InRange, OfDeclared}
 use Rattle.mesh_model.specs.Tree.ValidGrid.{FewNodes}
 use Rattle.mesh_model.specs.Fields.Regrid.{regrid}
 use Rattle.mesh_model.specs.Tree.Regrown.{new_grid}
@@ -19,9 +19,9 @@ use Rattle.mesh_model.specs.Fields.Induct.{with_faces}
 use Rattle.mesh_model.specs.Fields.Laws.{leaf_cells}
 use Rattle.mesh_model.proofs.GeometryLemmas.ShapeLimits.{cells_most}
 use Rattle.mesh_model.proofs.FieldLemmas.FieldsKept.{regrid_on_leaves, advect_on_leaves, faces_on_leaves}
-use Rattle.mesh_model.proofs.FieldLemmas.Ruled.{new_grid_valid}
+use Rattle.mesh_model.proofs.TreeLemmas.Ruled.{new_grid_valid}
 use Rattle.mesh_model.proofs.FieldLemmas.ZeroViews.{no_cell_views, no_face_views, no_edge_views}
-use Rattle.mesh_model.proofs.FieldLemmas.Sorting.{new_grid_sorted}
+use Rattle.mesh_model.proofs.TreeLemmas.Sorting.{new_grid_sorted}
 
 off_or : (on : Bool) {z : ℤ} → z ≡ pos 0 → (if on then z else pos 0) ≡ pos 0
 off_or true h = h
@@ -35,10 +35,10 @@ not_both (Some x) t h = cc
 pub regrid_declared : (m : Mesh) → ValidMesh m → OfDeclared (regrid m)
 regrid_declared m valid = record {
   few = valid.declared.few;
-  cells = λ v h c. off_or (is_leaf (new_grid m) c) (no_cell_views m.grid (m.cells v) (valid.declared.cells v h) c);
+  cells = λ v h c. off_or (is_leaf (new_grid (marked m)) c) (no_cell_views m.grid (m.cells v) (valid.declared.cells v h) c);
   outs = valid.declared.outs;
-  faces = λ h f. off_or (is_canonical m.grid.shape f && is_leaf_face (new_grid m) f) (no_face_views m.grid m.faces (valid.declared.faces h) f);
-  edges = λ h e. off_or (is_canonical_edge m.grid.shape e && is_leaf_edge (new_grid m) e) (no_edge_views m.grid m.edges (valid.declared.edges h) e);
+  faces = λ h f. off_or (is_canonical m.grid.shape f && is_leaf_face (new_grid (marked m)) f) (no_face_views m.grid m.faces (valid.declared.faces h) f);
+  edges = λ h e. off_or (is_canonical_edge m.grid.shape e && is_leaf_edge (new_grid (marked m)) e) (no_edge_views m.grid m.edges (valid.declared.edges h) e);
 }
 
 pub advect_declared : (m : Mesh) (var : ℕ) (n : Speeds) → ValidMesh m → var < length m.names.cells → OfDeclared (advect m var n)
@@ -60,10 +60,10 @@ faces_declared m k valid there = record {
 }
 
 -- regrid, where nodes and numbers keep the limits
-pub regrid_valid : (m : Mesh) → ValidMesh m → FewNodes (new_grid m) → InRange (regrid m) → ValidMesh (regrid m)
+pub regrid_valid : (m : Mesh) → ValidMesh m → FewNodes (new_grid (marked m)) → InRange (regrid m) → ValidMesh (regrid m)
 regrid_valid m valid few range = record {
-  grid = new_grid_valid m valid;
-  order = new_grid_sorted m valid;
+  grid = new_grid_valid (marked m) (valid_marked m valid);
+  order = new_grid_sorted (marked m) (valid_marked m valid);
   nodes = few;
   numbers = regrid_on_leaves m;
   declared = regrid_declared m valid;

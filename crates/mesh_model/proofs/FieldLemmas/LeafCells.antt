@@ -11,7 +11,8 @@ use Rattle.mesh_model.specs.Tree.Kinds.{Grid, block_of, is_leaf, is_split, is_le
 use Rattle.mesh_model.specs.Geometry.Coordinates.{Inside}
 use Rattle.mesh_model.specs.Fields.Laws.{CellIn}
 use Rattle.mesh_model.specs.Tree.Order.{IsIn}
-use Rattle.mesh_model.specs.Tree.ValidGrid.{LiesIn, Valid}
+use Rattle.mesh_model.specs.Tree.ValidGrid.{Valid}
+use Rattle.mesh_model.specs.Geometry.Blocks.{LiesIn}
 use Rattle.mesh_model.proofs.TreeLemmas.Tiling.{leaf_says, leaf_shows, split_says, split_shows, same_level, domain_up}
 use Rattle.mesh_model.proofs.TreeLemmas.Levels.{domain_down, split_finer, home}
 use Rattle.mesh_model.proofs.FieldLemmas.Beside.{block_in_domain}

@@ -8,9 +8,9 @@ use Rattle.amr_num.specs.declared.FaceAt.{FaceAt}
 use Rattle.amr_num.specs.Numbers.{sum_below}
 use Rattle.mesh_model.specs.Geometry.Coordinates.{sub_cell, parent_cell, octant_of, face_of, after, extent, Inside}
 use Rattle.mesh_model.specs.Tree.Kinds.{Grid, is_leaf, is_split}
-use Rattle.mesh_model.specs.Fields.Plain.{Mesh}
+use Rattle.mesh_model.specs.Fields.Plain.{marked, Mesh}
 use Rattle.mesh_model.specs.Tree.ValidGrid.{Valid}
-use Rattle.mesh_model.specs.Fields.Valid.{ValidMesh}
+use Rattle.mesh_model.specs.Fields.Valid.{valid_marked, ValidMesh}
 use Rattle.mesh_model.specs.Fields.Views.{face_view}
 use Rattle.mesh_model.specs.Fields.Circulation.{net_flux}
 use Rattle.mesh_model.specs.Fields.Balance.{Balanced}
@@ -19,7 +19,7 @@ use Rattle.mesh_model.specs.Fields.Regrid.{regrid}
 use Rattle.mesh_model.proofs.FieldLemmas.ValidGrid.{leaf_inside}
 use Rattle.mesh_model.proofs.FieldLemmas.Slots.{same_cell}
 use Rattle.mesh_model.proofs.FieldLemmas.Round.{parent_inside}
-use Rattle.mesh_model.proofs.FieldLemmas.Ruled.{new_grid_valid}
+use Rattle.mesh_model.proofs.TreeLemmas.Ruled.{new_grid_valid}
 use Rattle.mesh_model.proofs.FieldLemmas.Adding.{net_flux_sum}
 use Rattle.mesh_model.proofs.FieldLemmas.CellKinds.{Kinds, kinds_of_tiles, wide_of}
 use Rattle.mesh_model.proofs.FieldLemmas.Divergence.{net_of_new}
@@ -93,9 +93,9 @@ module _ (g : Grid) (valid : Valid g) (faces : FaceAt → ℤ) (balanced : Balan
 pub regrid_balances : (m : Mesh) → ValidMesh m → Balanced m.grid m.faces → Balanced (regrid m).grid (regrid m).faces
 regrid_balances m valid h = record {
   at_leaf = λ c t.
-      let after = new_grid_valid m valid in
+      let after = new_grid_valid (marked m) (valid_marked m valid) in
       let shape = valid.grid.shape in
-      let i = leaf_inside (new_grid m) after c t in
-      net_of_new (new_grid m) after (face_view m.grid m.faces) (λ f s. face_adds m.grid (kinds_of_tiles m.grid valid.grid.tiles shape) shape (wide_of m.grid.shape shape) m.faces f) c i t
+      let i = leaf_inside (new_grid (marked m)) after c t in
+      net_of_new (new_grid (marked m)) after (face_view m.grid m.faces) (λ f s. face_adds m.grid (kinds_of_tiles m.grid valid.grid.tiles shape) shape (wide_of m.grid.shape shape) m.faces f) c i t
       ∙ balanced_everywhere m.grid valid.grid m.faces h c i;
 }

@@ -6,7 +6,8 @@ use Rattle.mesh_model.specs.Fields.VariableNames.{VariableNames}
 use Rattle.mesh_model.specs.declared.geometry.Shape.{Shape}
 use Rattle.mesh_model.specs.Tree.Start.{start_grid}
 use Rattle.mesh_model.specs.Fields.Start.{start_mesh}
-use Rattle.mesh_model.specs.Tree.ValidGrid.{LiesIn, Tiles, Valid, AllRoots}
+use Rattle.mesh_model.specs.Tree.ValidGrid.{Tiles, Valid, AllRoots}
+use Rattle.mesh_model.specs.Geometry.Blocks.{LiesIn}
 use Rattle.mesh_model.specs.Fields.Valid.{ValidMesh}
 use Rattle.mesh_model.specs.Geometry.Limits.{IsShape}
 use Rattle.mesh_model.proofs.TreeLemmas.Roots.{start_sorted, start_few, start_root, start_every}

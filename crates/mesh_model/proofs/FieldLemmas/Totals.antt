@@ -3,9 +3,9 @@ use Rattle.std.proofs.Common.{◌≡◌, ℕ, true, ℤ, sym, ◌∙◌, inl, in
 use Rattle.std.proofs.lemmas.Bool.{cases_Bool}
 use Rattle.amr_num.specs.declared.CellAt.{CellAt}
 use Rattle.mesh_model.specs.Tree.Kinds.{Grid, is_leaf, is_split}
-use Rattle.mesh_model.specs.Fields.Plain.{Mesh}
+use Rattle.mesh_model.specs.Fields.Plain.{marked, Mesh}
 use Rattle.mesh_model.specs.Tree.ValidGrid.{Valid}
-use Rattle.mesh_model.specs.Fields.Valid.{ValidMesh}
+use Rattle.mesh_model.specs.Fields.Valid.{valid_marked, ValidMesh}
 use Rattle.mesh_model.specs.Fields.Views.{cell_view}
 use Rattle.mesh_model.specs.Tree.Order.{Sorted}
 use Rattle.mesh_model.specs.Fields.Totals.{level_sum, leaf_sum, total}
@@ -14,8 +14,8 @@ use Rattle.mesh_model.specs.Tree.Regrown.{new_grid}
 use Rattle.mesh_model.proofs.FieldLemmas.ValidGrid.{kinds, tree}
 use Rattle.mesh_model.proofs.FieldLemmas.CellSums.{cell_view_sum, view_leaf}
 use Rattle.mesh_model.proofs.FieldLemmas.CellKinds.{Kinds}
-use Rattle.mesh_model.proofs.FieldLemmas.Ruled.{new_grid_valid}
-use Rattle.mesh_model.proofs.FieldLemmas.Sorting.{new_grid_sorted}
+use Rattle.mesh_model.proofs.TreeLemmas.Ruled.{new_grid_valid}
+use Rattle.mesh_model.proofs.TreeLemmas.Sorting.{new_grid_sorted}
 use Rattle.mesh_model.proofs.FieldLemmas.BlockSums.{sum_by_leaves}
 use Rattle.mesh_model.proofs.FieldLemmas.LeafSums.{leaf_sum_is, leaf_same, leaf_twice}
 
@@ -41,7 +41,7 @@ total_of_views g v valid order = total_by_levels g v valid order ∙ leaves_of_v
 pub regrid_keeps_total : (m : Mesh) (var : ℕ) → ValidMesh m → total (regrid m).grid ((regrid m).cells var) ≡ total m.grid (m.cells var)
 regrid_keeps_total m var valid =
     let v = m.cells var in
-    total_by_levels (new_grid m) _ (new_grid_valid m valid) (new_grid_sorted m valid)
-    ∙ leaf_twice (new_grid m) (cell_view m.grid v)
-    ∙ leaf_sum_is (new_grid m) (cell_view m.grid v) (kinds (new_grid m) (new_grid_valid m valid)) (cell_view_sum m.grid v (tree m.grid valid.grid))
+    total_by_levels (new_grid (marked m)) _ (new_grid_valid (marked m) (valid_marked m valid)) (new_grid_sorted (marked m) (valid_marked m valid))
+    ∙ leaf_twice (new_grid (marked m)) (cell_view m.grid v)
+    ∙ leaf_sum_is (new_grid (marked m)) (cell_view m.grid v) (kinds (new_grid (marked m)) (new_grid_valid (marked m) (valid_marked m valid))) (cell_view_sum m.grid v (tree m.grid valid.grid))
     ∙ sym (total_of_views m.grid v valid.grid valid.order)

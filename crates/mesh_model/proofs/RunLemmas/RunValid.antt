@@ -23,7 +23,7 @@ use Rattle.mesh_model.specs.Fields.Fill.{is_in_box, with_cells}
 use Rattle.mesh_model.specs.Fields.Induct.{with_faces}
 use Rattle.mesh_model.specs.Geometry.Limits.{IsShape}
 use Rattle.mesh_model.specs.Tree.Kinds.{Grid, is_leaf, is_leaf_block, is_leaf_edge, is_leaf_face}
-use Rattle.mesh_model.specs.Fields.Plain.{Mesh, on_cells, on_faces}
+use Rattle.mesh_model.specs.Fields.Plain.{marked, Mesh, on_cells, on_faces}
 use Rattle.mesh_model.specs.Geometry.Canonical.{is_canonical, is_canonical_at, is_canonical_edge, named_edge, named_face, named_on}
 use Rattle.mesh_model.specs.Fields.RangeWalk.{first_excess}
 use Rattle.mesh_model.specs.Tree.Regrown.{new_grid}
@@ -311,7 +311,7 @@ faces_after m k valid there none = faces_valid m k valid there (in_range (with_f
 advect_after : (m : Mesh) (var : ℕ) (n : Speeds) → ValidMesh m → var < length m.names.cells → range_of (advect m var n) ≡ None → ValidMesh (advect m var n)
 advect_after m var n valid there none = advect_valid m var n valid there (in_range (advect m var n) valid.grid.shape (advect_on_leaves m var n valid.numbers) (advect_declared m var n valid there) none)
 
-few_after : (m : Mesh) → nodes_of m ≡ None → FewNodes (new_grid m)
+few_after : (m : Mesh) → nodes_of m ≡ None → FewNodes (new_grid (marked m))
 few_after m h = leb-true _ _ (held _ _ h)
 
 regrid_after : (m : Mesh) → ValidMesh m → nodes_of m ≡ None → range_of (regrid m) ≡ None → ValidMesh (regrid m)

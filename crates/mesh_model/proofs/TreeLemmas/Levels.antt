@@ -7,9 +7,9 @@ use Rattle.std.proofs.lemmas.Bool.{cases_lt}
 use Rattle.amr_num.specs.declared.BlockAt.{BlockAt}
 use Rattle.mesh_model.specs.declared.geometry.Shape.{Shape}
 use Rattle.mesh_model.specs.Tree.Kinds.{Grid, is_split_block}
-use Rattle.mesh_model.specs.Geometry.Blocks.{child_block}
+use Rattle.mesh_model.specs.Geometry.Blocks.{child_block, LiesIn, InDomain}
 use Rattle.mesh_model.specs.Tree.Order.{IsIn}
-use Rattle.mesh_model.specs.Tree.ValidGrid.{LiesIn, InDomain, Tiles, LevelRule}
+use Rattle.mesh_model.specs.Tree.ValidGrid.{Tiles, LevelRule}
 use Rattle.mesh_model.proofs.TreeLemmas.Tests.{refuted}
 use Rattle.mesh_model.proofs.TreeLemmas.Tiling.{IsChild, nested, lies_trans, lies_refl, finest, finest_in, child_in, domain_up, domain_finest, split_says, split_shows}
 use Rattle.mesh_model.proofs.TreeLemmas.Touching.{Touch, touch_shows, touch_swap, touch_up, touch_child}

@@ -9,7 +9,7 @@ use Rattle.mesh_model.specs.Geometry.Limits.{IsShape, most_nodes}
 use Rattle.mesh_model.specs.Tree.Order.{IsIn, Sorted, interleave, morton, key, begun_at, nodes}
 use Rattle.mesh_model.specs.Geometry.Touch.{low_end}
 use Rattle.mesh_model.specs.Tree.Start.{every_third, root_at, is_root, root_there, start_leaves}
-use Rattle.mesh_model.specs.Tree.ValidGrid.{InDomain}
+use Rattle.mesh_model.specs.Geometry.Blocks.{InDomain}
 use Rattle.mesh_model.proofs.TreeLemmas.Tests.{and_left, and_right, and_both, all_three}
 
 -- what passes at all numbers of a row passes at each

@@ -8,7 +8,8 @@ use Rattle.amr_num.specs.declared.BlockAt.{BlockAt}
 use Rattle.mesh_model.specs.declared.geometry.Shape.{Shape}
 use Rattle.mesh_model.specs.Tree.Kinds.{Grid, lies_in, is_leaf_block, is_split_block}
 use Rattle.mesh_model.specs.Tree.Order.{IsIn}
-use Rattle.mesh_model.specs.Tree.ValidGrid.{LiesIn, InDomain, Tiles}
+use Rattle.mesh_model.specs.Tree.ValidGrid.{Tiles}
+use Rattle.mesh_model.specs.Geometry.Blocks.{LiesIn, InDomain}
 use Rattle.mesh_model.proofs.TreeLemmas.Tests.{all_four, found, there}
 
 -- ---- tests and what they say

@@ -10,8 +10,7 @@ use Rattle.amr_num.specs.declared.BlockAt.{BlockAt}
 use Rattle.mesh_model.specs.declared.geometry.Shape.{Shape}
 use Rattle.mesh_model.specs.Geometry.Coordinates.{is_periodic, roots}
 use Rattle.mesh_model.specs.Geometry.Touch.{low_end, high_end, stretches_meet, touches, meet_on, place}
-use Rattle.mesh_model.specs.Geometry.Blocks.{child_block}
-use Rattle.mesh_model.specs.Tree.ValidGrid.{LiesIn}
+use Rattle.mesh_model.specs.Geometry.Blocks.{child_block, LiesIn}
 use Rattle.mesh_model.proofs.TreeLemmas.Tests.{all_three, and_left, and_right, and_both, either_true, or_left, or_right}
 
 -- ---- stretches of one axis

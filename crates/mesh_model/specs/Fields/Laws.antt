@@ -10,15 +10,17 @@ use Rattle.mesh_model.specs.declared.geometry.Shape.{Shape}
 use Rattle.mesh_model.specs.Fields.VariableNames.{VariableNames}
 use Rattle.mesh_model.specs.Geometry.Coordinates.{Inside, on, with, extent, next, sub_cell, sub_face, half_edge, parent_face, face_of, edge_of, after, face_numbers, edge_numbers, EdgeInside}
 use Rattle.mesh_model.specs.Geometry.Outside.{cell_in}
-use Rattle.mesh_model.specs.Geometry.Blocks.{child_block}
+use Rattle.mesh_model.specs.Geometry.Blocks.{child_block, LiesIn}
 use Rattle.mesh_model.specs.Geometry.Limits.{IsShape}
+use Rattle.mesh_model.specs.Tree.MarkedGrid.{MarkedGrid, ValidMarkedGrid}
+use Rattle.mesh_model.specs.Tree.Growth.{MayRefine, MayMerge}
 use Rattle.mesh_model.specs.Tree.Kinds.{Grid, is_leaf, is_split, is_split_face, is_leaf_face, is_split_edge, is_leaf_edge}
-use Rattle.mesh_model.specs.Fields.Plain.{Mesh, on_faces}
+use Rattle.mesh_model.specs.Fields.Plain.{Mesh, marked, on_faces}
 use Rattle.mesh_model.specs.Fields.InnerRule.{Outer, octant_out, cell_out}
 use Rattle.mesh_model.specs.Fields.Circulation.{circulation, net_flux}
 use Rattle.mesh_model.specs.Fields.Views.{cell_view, face_view, edge_view, sides_of, inner_face, is_even, even_round, sum_of}
 use Rattle.mesh_model.specs.Tree.Order.{Sorted, nodes, IsIn}
-use Rattle.mesh_model.specs.Tree.ValidGrid.{LiesIn, LevelRule, Valid, FewNodes}
+use Rattle.mesh_model.specs.Tree.ValidGrid.{LevelRule, Valid, FewNodes}
 use Rattle.mesh_model.specs.Fields.Valid.{ValidMesh, OnLeaves, OfDeclared, InRange}
 use Rattle.mesh_model.specs.Fields.Totals.{level_sum, leaf_sum, total}
 use Rattle.mesh_model.specs.Tree.Closure.{is_refined, is_merged}
@@ -43,19 +45,6 @@ pub record CellIn (d c : CellAt) : Type 0 where
 abbrev pub leaf_cells : Grid → ℕ
 leaf_cells g = length g.leaves * (g.shape.n * g.shape.n * g.shape.n)
 
--- a set of leaves that holds the marked ones, and may be refined under the level rule
-pub record MayRefine (m : Mesh) (set : BlockAt → Bool) : Type 0 where
-  pub marks : (b : BlockAt) → IsIn b m.grid.leaves → m.refine b ≡ true → set b ≡ true
-  pub deep : (b : BlockAt) → IsIn b m.grid.leaves → set b ≡ true → b.level < m.grid.shape.max
-  pub rule : LevelRule (regrown m.grid set (λ p. false))
-
--- a set of parents, each of eight leaves that are marked derefine, which may be merged beside the refined leaves under the level rule
-pub record MayMerge (m : Mesh) (set : BlockAt → Bool) : Type 0 where
-  pub leaf : (p : BlockAt) (q : ℕ) → set p ≡ true → q < 8 → IsIn (child_block p q) m.grid.leaves
-  pub marked : (p : BlockAt) (q : ℕ) → set p ≡ true → q < 8 → m.derefine (child_block p q) ≡ true
-  pub stays : (p : BlockAt) (q : ℕ) → set p ≡ true → q < 8 → is_refined m (child_block p q) ≡ false
-  pub rule : LevelRule (regrown m.grid (is_refined m) set)
-
 -- ---- kinds
 
 -- a cell is split exactly where finer leaf cells lie in it
@@ -78,7 +67,7 @@ NodesAreLeavesAndAncestors = (g : Grid) (b : BlockAt) → Valid g →
 
 -- and go by rising key
 abbrev pub NodesAreInOrder : Type 0
-NodesAreInOrder = (m : Mesh) → ValidMesh m → Sorted (nodes m.grid.leaves)
+NodesAreInOrder = (g : Grid) → Valid g → Sorted g.leaves → Sorted (nodes g.leaves)
 
 -- ---- views
 
@@ -173,19 +162,19 @@ StartIsValid = (s : Shape) (names : VariableNames) → IsShape s → length name
 
 -- the refined set may be refined, and is within each set that may
 abbrev pub RefinedIsLeast : Type 0
-RefinedIsLeast = (m : Mesh) → ValidMesh m → MayRefine m (is_refined m) × ((set : BlockAt → Bool) → MayRefine m set → (b : BlockAt) → is_refined m b ≡ true → set b ≡ true)
+RefinedIsLeast = (m : MarkedGrid) → ValidMarkedGrid m → MayRefine m (is_refined m) × ((set : BlockAt → Bool) → MayRefine m set → (b : BlockAt) → is_refined m b ≡ true → set b ≡ true)
 
 -- the merged set may be merged, and has in it each set that may
 abbrev pub MergedIsGreatest : Type 0
-MergedIsGreatest = (m : Mesh) → ValidMesh m → MayMerge m (is_merged m) × ((set : BlockAt → Bool) → MayMerge m set → (p : BlockAt) → set p ≡ true → is_merged m p ≡ true)
+MergedIsGreatest = (m : MarkedGrid) → ValidMarkedGrid m → MayMerge m (is_merged m) × ((set : BlockAt → Bool) → MayMerge m set → (p : BlockAt) → set p ≡ true → is_merged m p ≡ true)
 
 -- the grid after regrid is valid, its leaves in Morton order
 abbrev pub NewGridIsValid : Type 0
-NewGridIsValid = (m : Mesh) → ValidMesh m → Valid (new_grid m) × Sorted (new_grid m).leaves
+NewGridIsValid = (m : MarkedGrid) → ValidMarkedGrid m → Valid (new_grid m) × Sorted (new_grid m).leaves
 
 -- so the mesh is, where its nodes and numbers keep the limits
 abbrev pub RegridKeepsValidity : Type 0
-RegridKeepsValidity = (m : Mesh) → ValidMesh m → FewNodes (new_grid m) → InRange (regrid m) → ValidMesh (regrid m)
+RegridKeepsValidity = (m : Mesh) → ValidMesh m → FewNodes (new_grid (marked m)) → InRange (regrid m) → ValidMesh (regrid m)
 
 -- ---- totals
 

@@ -6,6 +6,7 @@ use Rattle.amr_num.specs.declared.FaceAt.{FaceAt}
 use Rattle.amr_num.specs.declared.EdgeAt.{EdgeAt}
 use Rattle.mesh_model.specs.Fields.VariableNames.{VariableNames}
 use Rattle.mesh_model.specs.Geometry.Coordinates.{on}
+use Rattle.mesh_model.specs.Tree.MarkedGrid.{MarkedGrid}
 use Rattle.mesh_model.specs.Tree.Kinds.{Grid, is_leaf, is_leaf_edge, is_leaf_face}
 use Rattle.mesh_model.specs.Geometry.Canonical.{is_canonical, is_canonical_edge}
 
@@ -33,3 +34,7 @@ on_faces g f c = if is_canonical g.shape c && is_leaf_face g c then f c else pos
 
 abbrev pub on_edges : Grid → (EdgeAt → ℤ) → EdgeAt → ℤ
 on_edges g f c = if is_canonical_edge g.shape c && is_leaf_edge g c then f c else pos 0
+
+-- the grid of a mesh with its marks
+abbrev pub marked : Mesh → MarkedGrid
+marked m = record { grid = m.grid; refine = m.refine; derefine = m.derefine }

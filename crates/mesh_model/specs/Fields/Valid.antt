@@ -6,7 +6,8 @@ use Rattle.amr_num.specs.declared.FaceAt.{FaceAt}
 use Rattle.amr_num.specs.declared.EdgeAt.{EdgeAt}
 use Rattle.amr_num.specs.Numbers.{Within}
 use Rattle.mesh_model.specs.Tree.Kinds.{is_leaf, is_leaf_face, is_leaf_edge}
-use Rattle.mesh_model.specs.Fields.Plain.{Mesh}
+use Rattle.mesh_model.specs.Fields.Plain.{Mesh, marked}
+use Rattle.mesh_model.specs.Tree.MarkedGrid.{MarksFit, ValidMarkedGrid}
 use Rattle.mesh_model.specs.Geometry.Canonical.{is_canonical, is_canonical_edge}
 pub use Rattle.mesh_model.specs.Tree.Order.{IsIn}
 use Rattle.mesh_model.specs.Tree.Order.{Sorted, nodes}
@@ -33,11 +34,6 @@ pub record InRange (m : Mesh) : Type 0 where
   pub faces : (f : FaceAt) → Within (2 ^ 40) (m.faces f)
   pub edges : (e : EdgeAt) → Within (2 ^ 40) (m.edges e)
 
--- marks stand on leaves, the refine ones below the finest level and the derefine ones above the coarsest
-pub record MarksFit (m : Mesh) : Type 0 where
-  pub refine : (b : BlockAt) → m.refine b ≡ true → IsIn b m.grid.leaves × (b.level < m.grid.shape.max)
-  pub derefine : (b : BlockAt) → m.derefine b ≡ true → IsIn b m.grid.leaves × (m.grid.shape.min < b.level)
-
 -- the grid is valid, its leaves are listed in Morton order, there are not too many nodes, numbers are in their places, of declared variables and in range, and
 -- marks where they may be
 pub record ValidMesh (m : Mesh) : Type 0 where
@@ -47,4 +43,8 @@ pub record ValidMesh (m : Mesh) : Type 0 where
   pub numbers : OnLeaves m
   pub declared : OfDeclared m
   pub range : InRange m
-  pub marks : MarksFit m
+  pub marks : MarksFit (marked m)
+
+-- its grid with the marks is valid
+abbrev pub valid_marked : (m : Mesh) → ValidMesh m → ValidMarkedGrid (marked m)
+valid_marked m valid = record { grid = valid.grid; order = valid.order; nodes = valid.nodes; marks = valid.marks }

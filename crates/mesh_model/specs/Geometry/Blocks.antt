@@ -1,6 +1,7 @@
 -- Blocks, their children and parents.
-use Rattle.std.specs.Prelude.{ℕ, suc, ◌+◌, ◌-◌, ◌*◌, ◌/◌, ◌%◌, Bool, ◌&&◌, ◌==◌, List, [], ◌∷◌, map, ◌||◌, if◌then◌else◌, ℤ}
+use Rattle.std.specs.Prelude.{◌≡◌, ◌<◌, ◌≤◌, ◌^◌, ℕ, suc, ◌+◌, ◌-◌, ◌*◌, ◌/◌, ◌%◌, Bool, ◌&&◌, ◌==◌, List, [], ◌∷◌, map, ◌||◌, if◌then◌else◌, ℤ}
 use Rattle.amr_num.specs.declared.BlockAt.{BlockAt}
+use Rattle.mesh_model.specs.declared.geometry.Shape.{Shape}
 
 -- the block one level coarser in which a block lies
 abbrev pub parent_block : BlockAt → BlockAt
@@ -20,3 +21,17 @@ is_first_child b = (b.x % 2 == 0) && (b.y % 2 == 0) && (b.z % 2 == 0)
 
 abbrev pub is_same_block : BlockAt → BlockAt → Bool
 is_same_block a b = (a.level == b.level) && (a.x == b.x) && (a.y == b.y) && (a.z == b.z)
+
+-- the block b lies in the block a
+pub record LiesIn (b a : BlockAt) : Type 0 where
+  pub level : a.level ≤ b.level
+  pub x : b.x / 2 ^ (b.level - a.level) ≡ a.x
+  pub y : b.y / 2 ^ (b.level - a.level) ≡ a.y
+  pub z : b.z / 2 ^ (b.level - a.level) ≡ a.z
+
+-- b is a block of the domain, of a level of the mesh
+pub record InDomain (s : Shape) (b : BlockAt) : Type 0 where
+  pub level : b.level ≤ s.max
+  pub x : b.x < s.rx * 2 ^ b.level
+  pub y : b.y < s.ry * 2 ^ b.level
+  pub z : b.z < s.rz * 2 ^ b.level

@@ -12,7 +12,7 @@ use Rattle.mesh_model.specs.Fields.Advect.{Speeds, advect, three}
 use Rattle.mesh_model.specs.Fields.Induct.{curl, induct, uniform}
 use Rattle.mesh_model.specs.Geometry.Limits.{most_nodes}
 use Rattle.mesh_model.specs.Tree.Order.{nodes}
-use Rattle.mesh_model.specs.Fields.Plain.{Mesh}
+use Rattle.mesh_model.specs.Fields.Plain.{Mesh, marked}
 use Rattle.mesh_model.specs.Geometry.Canonical.{is_canonical, is_canonical_edge}
 use Rattle.mesh_model.specs.Tree.Kinds.{is_leaf_block, is_leaf_edge, is_leaf_face}
 use Rattle.mesh_model.specs.Fields.RangeWalk.{first_excess}
@@ -40,7 +40,7 @@ leaf_of m at = or_else (is_leaf_block m.grid at) (PlaceBlock at)
 
 -- the new tree has at most the limit of nodes
 abbrev pub nodes_of : Mesh → Option Refusal
-nodes_of m = or_else (nat_le (length (nodes (new_grid m).leaves)) (most_nodes m.grid.shape)) (Blocks (length (nodes (new_grid m).leaves)))
+nodes_of m = or_else (nat_le (length (nodes (new_grid (marked m)).leaves)) (most_nodes m.grid.shape)) (Blocks (length (nodes (new_grid (marked m)).leaves)))
 
 -- why the command is refused, where it is: the first reason in the order in which they are written here
 unfoldable pub refusal : Mesh → Command → Option Refusal

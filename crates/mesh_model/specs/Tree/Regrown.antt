@@ -2,7 +2,7 @@
 use Rattle.std.specs.Prelude.{Bool, true, false, ◌&&◌, nat_lt, if◌then◌else◌, List, [], ◌∷◌, flat_map}
 use Rattle.amr_num.specs.declared.BlockAt.{BlockAt}
 use Rattle.mesh_model.specs.Tree.Kinds.{Grid}
-use Rattle.mesh_model.specs.Fields.Plain.{Mesh}
+use Rattle.mesh_model.specs.Tree.MarkedGrid.{MarkedGrid}
 use Rattle.mesh_model.specs.Geometry.Blocks.{parent_block, children, is_first_child}
 use Rattle.mesh_model.specs.Tree.Closure.{is_refined, is_merged}
 
@@ -21,5 +21,5 @@ abbrev pub regrown : Grid → (BlockAt → Bool) → (BlockAt → Bool) → Grid
 regrown g refine merge = record { shape = g.shape; leaves = flat_map (in_place refine merge) g.leaves }
 
 -- the grid after regrid, by the closure of the marks
-abbrev pub new_grid : Mesh → Grid
+abbrev pub new_grid : MarkedGrid → Grid
 new_grid m = regrown m.grid (is_refined m) (is_merged m)

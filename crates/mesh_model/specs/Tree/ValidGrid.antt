@@ -2,25 +2,12 @@
 use Rattle.std.specs.Prelude.{◌≡◌, ℕ, suc, true, ◌&&◌, ◌-◌, ◌*◌, ◌/◌, ◌^◌, ◌<◌, ◌≤◌, length}
 use Rattle.amr_num.specs.declared.BlockAt.{BlockAt}
 use Rattle.mesh_model.specs.declared.geometry.Shape.{Shape}
+use Rattle.mesh_model.specs.Geometry.Blocks.{InDomain, LiesIn}
 use Rattle.mesh_model.specs.Tree.Kinds.{Grid}
 pub use Rattle.mesh_model.specs.Tree.Order.{IsIn}
 use Rattle.mesh_model.specs.Tree.Order.{nodes}
 use Rattle.mesh_model.specs.Geometry.Touch.{touches}
 use Rattle.mesh_model.specs.Geometry.Limits.{IsShape, most_nodes}
-
--- the block b lies in the block a
-pub record LiesIn (b a : BlockAt) : Type 0 where
-  pub level : a.level ≤ b.level
-  pub x : b.x / 2 ^ (b.level - a.level) ≡ a.x
-  pub y : b.y / 2 ^ (b.level - a.level) ≡ a.y
-  pub z : b.z / 2 ^ (b.level - a.level) ≡ a.z
-
--- b is a block of the domain, of a level of the mesh
-pub record InDomain (s : Shape) (b : BlockAt) : Type 0 where
-  pub level : b.level ≤ s.max
-  pub x : b.x < s.rx * 2 ^ b.level
-  pub y : b.y < s.ry * 2 ^ b.level
-  pub z : b.z < s.rz * 2 ^ b.level
 
 -- each finest block of the domain lies in exactly one leaf
 pub record Tiles (g : Grid) : Type 0 where

@@ -4,7 +4,7 @@ ghost use Rattle.std.specs.Prelude.{◌≡◌, ◌+◌, ◌*◌, ◌^◌, ◌<�
 ghost use Rattle.mesh_model.specs.Geometry.Coordinates as coordinates;
 ghost use Rattle.mesh_model.specs.Geometry.Limits.{IsShape};
 ghost use Rattle.mesh_model.specs.Geometry.Touch as touch;
-ghost use Rattle.mesh_model.specs.Tree.ValidGrid.{InDomain};
+ghost use Rattle.mesh_model.specs.Geometry.Blocks.{InDomain};
 
 use crate::geometry::Shape;
 use crate::geometry::axes::{is_periodic, power_of_two, roots};

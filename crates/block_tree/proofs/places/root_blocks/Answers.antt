@@ -4,7 +4,7 @@ use Rattle.std.specs.List.{range_with_len}
 use Rattle.std.proofs.lemmas.List.{append-nil}
 use Rattle.amr_num.specs.declared.BlockAt.{BlockAt}
 use Rattle.mesh_model.specs.Tree.Start.{root_at, root_there, start_leaves}
-use Rattle.mesh_model.specs.Tree.ValidGrid.{InDomain}
+use Rattle.mesh_model.specs.Geometry.Blocks.{InDomain}
 use Rattle.block_tree.proofs.Counting.{flat_more}
 use Rattle.block_tree.proofs.Rooted.{root_stands, root_lacks}
 use Rattle.block_tree.proofs.places.root_blocks.Goals as goal

@@ -1,5 +1,5 @@
 use Rattle.std.proofs.Common.{sym, subst}
-use Rattle.mesh_model.specs.Tree.ValidGrid.{InDomain}
+use Rattle.mesh_model.specs.Geometry.Blocks.{InDomain}
 use Rattle.block_tree.proofs.Numbers.{node_block, block_inside}
 use Rattle.block_tree.proofs.tree.Tree.at.Goals as goal
 

@@ -1,7 +1,7 @@
 use Rattle.std.proofs.Common.{◌≡◌, ◌+◌, false, sym, ap, ◌∙◌, subst, arith, inl, inr}
 use Rattle.std.proofs.lemmas.Bool.{cases_lt}
 use Rattle.mesh_model.specs.Tree.Kinds.{block_of, is_leaf_block}
-use Rattle.mesh_model.specs.Tree.ValidGrid.{LiesIn}
+use Rattle.mesh_model.specs.Geometry.Blocks.{LiesIn}
 use Rattle.block_tree.specs.GridOf.{grid_of}
 use Rattle.block_tree.proofs.ByChildren.{found_leaf}
 use Rattle.block_tree.proofs.Covering.{over, over_in, nowhere, split_or_outside, covered_whole, covered_inside, on_leaf}

@@ -1,4 +1,4 @@
-use Rattle.mesh_model.proofs.FieldLemmas.Ruled.{merged_may, greatest}
+use Rattle.mesh_model.proofs.TreeLemmas.Ruled.{merged_may, greatest}
 use Rattle.mesh_model.proofs.fields.laws.merged_is_greatest.Goals as goal
 
 pub returns : goal.returns

@@ -1,4 +1,4 @@
-use Rattle.mesh_model.proofs.FieldLemmas.Nodes.{node_in, in_node, nodes_sorted}
+use Rattle.mesh_model.proofs.TreeLemmas.Nodes.{node_in, in_node, nodes_sorted}
 use Rattle.mesh_model.proofs.fields.laws.nodes_are_leaves_and_ancestors.Goals as goal
 
 pub returns : goal.returns

@@ -1,4 +1,4 @@
-use Rattle.mesh_model.proofs.FieldLemmas.Ruled.{refined_may, least}
+use Rattle.mesh_model.proofs.TreeLemmas.Ruled.{refined_may, least}
 use Rattle.mesh_model.proofs.fields.laws.refined_is_least.Goals as goal
 
 pub returns : goal.returns

@@ -1,5 +1,5 @@
-use Rattle.mesh_model.proofs.FieldLemmas.Ruled.{new_grid_valid}
-use Rattle.mesh_model.proofs.FieldLemmas.Sorting.{new_grid_sorted}
+use Rattle.mesh_model.proofs.TreeLemmas.Ruled.{new_grid_valid}
+use Rattle.mesh_model.proofs.TreeLemmas.Sorting.{new_grid_sorted}
 use Rattle.mesh_model.proofs.FieldLemmas.KeptValid.{regrid_valid}
 use Rattle.mesh_model.proofs.fields.laws.regrid_keeps_validity.Goals as goal
 

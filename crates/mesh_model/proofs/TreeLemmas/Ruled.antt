@@ -3,20 +3,19 @@ use Rattle.std.proofs.Common.{◌≡◌, ℕ, suc, ◌<◌, ◌≤◌, ◌⊎◌
 use Rattle.std.proofs.lemmas.Bool.{cases_Bool, cases_lt}
 use Rattle.amr_num.specs.declared.BlockAt.{BlockAt}
 use Rattle.mesh_model.specs.declared.geometry.Shape.{Shape}
-use Rattle.mesh_model.specs.Fields.Plain.{Mesh}
+use Rattle.mesh_model.specs.Tree.MarkedGrid.{MarkedGrid, ValidMarkedGrid}
 use Rattle.mesh_model.specs.Geometry.Blocks.{child_block, parent_block}
 use Rattle.mesh_model.specs.Tree.Closure.{is_refined, is_merged}
 use Rattle.mesh_model.specs.Tree.Regrown.{regrown, new_grid}
 use Rattle.mesh_model.specs.Tree.Order.{IsIn}
 use Rattle.mesh_model.specs.Tree.ValidGrid.{LevelRule, Valid}
-use Rattle.mesh_model.specs.Fields.Valid.{ValidMesh}
-use Rattle.mesh_model.specs.Fields.Laws.{MayRefine, MayMerge}
+use Rattle.mesh_model.specs.Tree.Growth.{MayRefine, MayMerge}
 use Rattle.mesh_model.proofs.TreeLemmas.Tests.{refuted}
 use Rattle.mesh_model.proofs.TreeLemmas.Tiling.{child_in, same_level}
 use Rattle.mesh_model.proofs.TreeLemmas.Touching.{Touch, touch_says, touch_shows, touch_swap, touch_up, touch_child}
 use Rattle.mesh_model.proofs.TreeLemmas.Levels.{is_child}
-use Rattle.mesh_model.proofs.FieldLemmas.Closure.{Closed, Merges, refined_leaf, refined_marked, refined_chain, refined_least, merged_says, merged_greatest}
-use Rattle.mesh_model.proofs.FieldLemmas.Regrown.{alone_test, Fit, FromRefined, FromMerged, Kept, is_parent, child_round, new_child, new_parent, new_kept, new_source, regrown_tiles}
+use Rattle.mesh_model.proofs.TreeLemmas.Closure.{Closed, Merges, refined_leaf, refined_marked, refined_chain, refined_least, merged_says, merged_greatest}
+use Rattle.mesh_model.proofs.TreeLemmas.Regrown.{alone_test, Fit, FromRefined, FromMerged, Kept, is_parent, child_round, new_child, new_parent, new_kept, new_source, regrown_tiles}
 
 -- a block that is no root is one of its parent's children
 pub own_octant : (b : BlockAt) → 0 < b.level → (q : ℕ) × (q < 8) × (child_block (parent_block b) q ≡ b)
@@ -28,7 +27,7 @@ own_octant b h =
 pub touch_parent : (s : Shape) (a b : BlockAt) (q : ℕ) → b.level < 10 → Touch s a (child_block b q) → Touch s a b
 touch_parent s a b q h t = touch_up s a (child_block b q) b t (child_in (child_block b q) b (is_child b q)) (omega arith)
 
-module _ (m : Mesh) (valid : ValidMesh m) where
+module _ (m : MarkedGrid) (valid : ValidMarkedGrid m) where
   pub room : (b : BlockAt) → IsIn b m.grid.leaves → b.level ≤ 10
   room b i = let r = (valid.grid.tiles.inside b i).level in let top = valid.grid.shape.max in omega arith
 

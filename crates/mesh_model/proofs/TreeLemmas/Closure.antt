@@ -2,7 +2,7 @@
 use Rattle.std.proofs.Common.{◌≡◌, ℕ, zero, suc, ◌+◌, ◌-◌, ◌*◌, ◌/◌, ◌%◌, ◌<◌, ◌≤◌, Bool, true, false, ◌&&◌, ◌==◌, not, nat_lt, refl, ap, ◌∙◌, arith, inl, inr, subst, eq-eqb, eqb-true, lt-ltb, ltb-true}
 use Rattle.std.specs.List.{list_any, list_all}
 use Rattle.amr_num.specs.declared.BlockAt.{BlockAt}
-use Rattle.mesh_model.specs.Fields.Plain.{Mesh}
+use Rattle.mesh_model.specs.Tree.MarkedGrid.{MarkedGrid, ValidMarkedGrid}
 use Rattle.mesh_model.specs.Tree.Kinds.{is_leaf_block}
 use Rattle.mesh_model.specs.Geometry.Blocks.{child_block, parent_block, children}
 use Rattle.mesh_model.specs.Tree.Closure.{refined, is_refined, is_ready, is_blocked, merged, is_merged}
@@ -63,7 +63,7 @@ parent_of_child p q =
 
 -- ---- refined leaves
 
-module _ (m : Mesh) (room : (b : BlockAt) → IsIn b m.grid.leaves → b.level ≤ 10) where
+module _ (m : MarkedGrid) (room : (b : BlockAt) → IsIn b m.grid.leaves → b.level ≤ 10) where
   finer_test : (leaf b : BlockAt) → leaf.level ≡ suc b.level → Touch m.grid.shape leaf b → ((leaf.level == suc b.level) && touches m.grid.shape leaf b) ≡ true
   finer_test leaf b level t = and_both (leaf.level == suc b.level) (touches m.grid.shape leaf b) (eq-eqb _ _ level) (touch_shows m.grid.shape leaf b t)
 

@@ -5,14 +5,14 @@ use Rattle.std.proofs.Math.Nat.{div-div-eq-div-mul}
 use Rattle.std.proofs.Math.Pow.{pow-add}
 use Rattle.amr_num.specs.declared.BlockAt.{BlockAt}
 use Rattle.mesh_model.specs.Tree.Kinds.{Grid}
-use Rattle.mesh_model.specs.Geometry.Blocks.{child_block, parent_block, children}
+use Rattle.mesh_model.specs.Geometry.Blocks.{child_block, parent_block, children, LiesIn, InDomain}
 use Rattle.mesh_model.specs.Tree.Regrown.{in_place, regrown}
 use Rattle.mesh_model.specs.Tree.Order.{IsIn}
-use Rattle.mesh_model.specs.Tree.ValidGrid.{LiesIn, InDomain, Tiles}
+use Rattle.mesh_model.specs.Tree.ValidGrid.{Tiles}
 use Rattle.mesh_model.proofs.TreeLemmas.Tests.{refuted, and_left, and_right, and_both, in_flat, from_flat}
 use Rattle.mesh_model.proofs.TreeLemmas.Tiling.{IsChild, nested, lies_trans, same_level, child_in, domain_up, domain_child}
 use Rattle.mesh_model.proofs.TreeLemmas.Levels.{is_child}
-use Rattle.mesh_model.proofs.FieldLemmas.Closure.{in_children, from_children, parent_of_child}
+use Rattle.mesh_model.proofs.TreeLemmas.Closure.{in_children, from_children, parent_of_child}
 
 -- the parent of a block that is no root
 pub is_parent : (b : BlockAt) → 0 < b.level → IsChild b (parent_block b)

@@ -5,16 +5,14 @@ use Rattle.std.proofs.Math.Pow.{pow-add}
 use Rattle.std.proofs.lemmas.Nat.{pow_pos}
 use Rattle.std.proofs.lemmas.Bool.{cases_Bool, cases_lt}
 use Rattle.amr_num.specs.declared.BlockAt.{BlockAt}
-use Rattle.mesh_model.specs.Geometry.Blocks.{child_block, parent_block, is_first_child}
+use Rattle.mesh_model.specs.Geometry.Blocks.{child_block, parent_block, is_first_child, LiesIn, InDomain}
 use Rattle.mesh_model.specs.Tree.Kinds.{Grid}
-use Rattle.mesh_model.specs.Fields.Plain.{Mesh}
 use Rattle.mesh_model.specs.Tree.Order.{IsIn, Sorted, key, morton, begun_at, nodes}
-use Rattle.mesh_model.specs.Tree.ValidGrid.{LiesIn, InDomain, Valid}
-use Rattle.mesh_model.specs.Fields.Valid.{ValidMesh}
+use Rattle.mesh_model.specs.Tree.ValidGrid.{Valid}
 use Rattle.mesh_model.proofs.TreeLemmas.Tests.{in_left, in_right, in_either, in_flat, from_flat, all_three, and_both}
 use Rattle.mesh_model.proofs.TreeLemmas.Tiling.{nested, lies_trans, lies_refl, child_in, finest, finest_in, domain_finest, domain_up}
-use Rattle.mesh_model.proofs.FieldLemmas.Regrown.{is_parent}
-use Rattle.mesh_model.proofs.FieldLemmas.Sorting.{sorted_append, sorted_flat, morton_child, span_pos, past_end}
+use Rattle.mesh_model.proofs.TreeLemmas.Regrown.{is_parent}
+use Rattle.mesh_model.proofs.TreeLemmas.Sorting.{sorted_append, sorted_flat, morton_child, span_pos, past_end}
 
 begun_first : (l : ℕ) (c : BlockAt) → is_first_child c ≡ true → begun_at (suc l) c ≡ begun_at l (parent_block c) ++ c ∷ []
 unfolding begun_at
@@ -174,20 +172,20 @@ begun_sorted (suc l) c e h = elim (cases_Bool (is_first_child c)) [
   | inr f ↦ subst (λ u. Sorted u) (sym (begun_other l c f)) (sorted_one c)
 ]
 
-pub nodes_sorted : (m : Mesh) → ValidMesh m → Sorted (nodes m.grid.leaves)
+pub nodes_sorted : (g : Grid) → Valid g → Sorted g.leaves → Sorted (nodes g.leaves)
 unfolding nodes key
-nodes_sorted m valid =
-    let top = valid.grid.shape.max in
-    sorted_flat (λ b. begun_at b.level b) m.grid.leaves valid.order
-    (λ b i. let room = (valid.grid.tiles.inside b i).level in begun_sorted b.level b refl (omega arith))
+nodes_sorted g valid order =
+    let top = valid.shape.max in
+    sorted_flat (λ b. begun_at b.level b) g.leaves order
+    (λ b i. let room = (valid.tiles.inside b i).level in begun_sorted b.level b refl (omega arith))
     (λ b c n o i j h in_b in_c.
-    let room_b = (valid.grid.tiles.inside b i).level in
-    let room_c = (valid.grid.tiles.inside c j).level in
+    let room_b = (valid.tiles.inside b i).level in
+    let room_c = (valid.tiles.inside c j).level in
     let from_b = begun_starts b.level b n refl (omega arith) in_b in
     let from_c = begun_starts c.level c o refl (omega arith) in_c in
     let place_b = from_b.place in
     let place_c = from_c.place in
     let under = from_b.level in
-    let past = past_end m.grid valid.grid b c i j h in
+    let past = past_end g valid b c i j h in
     let wide = span_pos b.level in
     omega arith)

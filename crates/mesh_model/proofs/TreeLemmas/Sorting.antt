@@ -7,20 +7,19 @@ use Rattle.std.proofs.lemmas.Nat.{pow_pos, le-div, div_below, shr_below}
 use Rattle.std.proofs.lemmas.Bool.{cases_Bool, cases_lt}
 use Rattle.amr_num.specs.declared.BlockAt.{BlockAt}
 use Rattle.mesh_model.specs.Tree.Kinds.{Grid}
-use Rattle.mesh_model.specs.Fields.Plain.{Mesh}
-use Rattle.mesh_model.specs.Geometry.Blocks.{child_block, parent_block, children}
+use Rattle.mesh_model.specs.Tree.MarkedGrid.{MarkedGrid, ValidMarkedGrid}
+use Rattle.mesh_model.specs.Geometry.Blocks.{child_block, parent_block, children, LiesIn}
 use Rattle.mesh_model.specs.Tree.Regrown.{in_place, regrown, new_grid}
 use Rattle.mesh_model.specs.Tree.Closure.{is_refined, is_merged}
 use Rattle.mesh_model.specs.Geometry.Touch.{low_end}
 use Rattle.mesh_model.specs.Tree.Order.{IsIn, interleave, morton, key, Sorted}
-use Rattle.mesh_model.specs.Tree.ValidGrid.{LiesIn, Valid}
-use Rattle.mesh_model.specs.Fields.Valid.{ValidMesh}
+use Rattle.mesh_model.specs.Tree.ValidGrid.{Valid}
 use Rattle.mesh_model.proofs.TreeLemmas.Tests.{in_either, in_flat, from_flat, and_left, and_right}
 use Rattle.mesh_model.proofs.TreeLemmas.Tiling.{finest, finest_in}
 use Rattle.mesh_model.proofs.TreeLemmas.Morton.{step, shifted, digits, same_numbers, power8}
-use Rattle.mesh_model.proofs.FieldLemmas.Closure.{merged_says}
-use Rattle.mesh_model.proofs.FieldLemmas.Regrown.{Fit, from_place, place_refined, place_merged, place_kept, takes_back, regrown_inside}
-use Rattle.mesh_model.proofs.FieldLemmas.Ruled.{fit, room}
+use Rattle.mesh_model.proofs.TreeLemmas.Closure.{merged_says}
+use Rattle.mesh_model.proofs.TreeLemmas.Regrown.{Fit, from_place, place_refined, place_merged, place_kept, takes_back, regrown_inside}
+use Rattle.mesh_model.proofs.TreeLemmas.Ruled.{fit, room}
 
 -- ---- where blocks lie in the order
 
@@ -263,5 +262,5 @@ module _ (g : Grid) (valid : Valid g) (refine merge : BlockAt → Bool) (fits : 
   regrown_sorted s = sorted_flat (in_place refine merge) g.leaves s place_sorted across
 
 -- the leaves of the new grid stand in Morton order, as the old ones do
-pub new_grid_sorted : (m : Mesh) → ValidMesh m → Sorted (new_grid m).leaves
+pub new_grid_sorted : (m : MarkedGrid) → ValidMarkedGrid m → Sorted (new_grid m).leaves
 new_grid_sorted m valid = regrown_sorted m.grid valid.grid (is_refined m) (is_merged m) (fit m valid (is_merged m) (merged_says m (room m valid))) valid.order
