@@ -14,7 +14,7 @@ use Rattle.block_tree.specs.Numbered.{IsNumberOf, block_at, block_in}
 use Rattle.block_tree.proofs.Facts.{known}
 use Rattle.block_tree.proofs.Flags.{same_says, same_shows}
 use Rattle.block_tree.proofs.Members.{in_at}
-use Rattle.block_tree.proofs.Next.{all_sorted}
+use Rattle.mesh_model.proofs.TreeLemmas.Nodes.{nodes_sorted}
 use Rattle.mesh_model.specs.Tree.Order.{IsIn, Sorted, key, nodes}
 use Rattle.mesh_model.specs.Tree.Kinds.{Grid, is_leaf_block}
 use Rattle.mesh_model.specs.Geometry.Blocks.{children, parent_block, is_same_block}
@@ -63,7 +63,7 @@ unfolding block_at
 number_is tree b node h =
     let g = grid_of tree in
     let whole = known tree in
-    place_is (nodes g.leaves) b node (all_sorted g whole.valid whole.order whole.few) h.there h.block
+    place_is (nodes g.leaves) b node (nodes_sorted g whole.valid whole.order) h.there h.block
 
 pub no_number : (tree : Tree) (b : BlockAt) → (IsIn b (nodes (grid_of tree).leaves) → ⊥) → number_of (grid_of tree) b ≡ None
 no_number tree b out = no_place (nodes (grid_of tree).leaves) b out

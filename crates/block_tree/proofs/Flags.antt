@@ -3,6 +3,7 @@ use Rattle.std.proofs.Common.{◌≡◌, ◌≢◌, ℕ, zero, suc, ◌+◌, ◌
 use Rattle.std.proofs.lemmas.Bool.{cases_Bool, cases_lt}
 use Rattle.std.specs.List.{list_any, range_with_len}
 use Rattle.amr_num.specs.declared.BlockAt.{BlockAt}
+use Rattle.mesh_model.proofs.TreeLemmas.Nodes.{nodes_sorted}
 use Rattle.mesh_model.specs.Tree.Order.{nodes, key}
 use Rattle.mesh_model.specs.Tree.Kinds.{Grid}
 use Rattle.mesh_model.specs.Geometry.Blocks.{is_same_block}
@@ -12,7 +13,6 @@ use Rattle.block_tree.specs.GridOf.{grid_of}
 use Rattle.block_tree.specs.Numbered.{IsNode, block_at, blocks_of, flag_in}
 use Rattle.block_tree.proofs.Facts.{known}
 use Rattle.block_tree.proofs.Members.{one_place}
-use Rattle.block_tree.proofs.Next.{all_sorted}
 
 -- ---- tests
 
@@ -90,7 +90,7 @@ module _ (t : Tree) where
   unfolding block_at
   number_once i j h k e =
       let tree = known t in
-      one_place (nodes (grid_of t).leaves) (all_sorted (grid_of t) tree.valid tree.order tree.few) i j h k (ap key e)
+      one_place (nodes (grid_of t).leaves) (nodes_sorted (grid_of t) tree.valid tree.order) i j h k (ap key e)
 
   -- the set has a node's block where the node is flagged
   pub set_at : (flag : ℕ → Bool) (i : ℕ) → IsNode (grid_of t) i → blocks_of (grid_of t) flag (block_at (grid_of t) i) ≡ flag i

@@ -19,30 +19,6 @@ use Rattle.block_tree.proofs.Leaves.{child_node, child_split, node_split, node_i
 
 -- ---- order
 
--- a mesh of a grid, without variables and marks
-abbrev bare : Grid → Mesh
-bare g = record {
-  grid = g;
-  names = record { cells = []; face = None; edge = None };
-  cells = λ v c. pos 0;
-  outs = λ v. pos 0;
-  faces = λ f. pos 0;
-  edges = λ e. pos 0;
-  refine = λ b. false;
-  derefine = λ b. false;
-}
-
-pub all_sorted : (g : Grid) → Valid g → Sorted g.leaves → FewNodes g → Sorted (nodes g.leaves)
-all_sorted g valid order few = nodes_sorted (bare g) (record {
-  grid = valid;
-  order = order;
-  nodes = few;
-  numbers = record { cells = λ v c h. refl; faces = λ f h. refl; edges = λ e h. refl };
-  declared = record { few = omega arith; cells = λ v h c. refl; outs = λ v h. refl; faces = λ h f. refl; edges = λ h e. refl };
-  range = record { cells = λ v c. omega arith; outs = λ v. omega arith; faces = λ f. omega arith; edges = λ e. omega arith };
-  marks = record { refine = λ b h. cc; derefine = λ b h. cc };
-})
-
 few_roots : (r l x : ℕ) → r ≤ 8 → x < r * 2 ^ l → x < 8 * 2 ^ l
 few_roots r l x h lt = let more = mul-le-mul_right (2 ^ l) h in omega arith
 
@@ -70,7 +46,7 @@ module _ (g : Grid) (valid : Valid g) (order : Sorted g.leaves) (few : FewNodes 
       (i + 1 < length (nodes g.leaves)) × (block_in (nodes g.leaves) (i + 1) ≡ child_block (block_in (nodes g.leaves) i) 0)
   next_child i h f =
       let all = nodes g.leaves in
-      let sorted = all_sorted g valid order few in
+      let sorted = nodes_sorted g valid order in
       let b = block_in all i in
       let split = node_split g valid b (in_at all i h) f in
       let child = at_in (child_block b 0) all (child_node g valid b 0 split) in

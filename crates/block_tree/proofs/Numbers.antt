@@ -3,6 +3,7 @@ use Rattle.std.proofs.Common.{◌≡◌, ℕ, ◌+◌, ◌<◌, ◌≤◌, ◌==
 use Rattle.std.proofs.lemmas.Bool.{cases_Bool}
 use Rattle.std.proofs.lemmas.List.{get_or_read}
 use Rattle.amr_num.specs.declared.BlockAt.{BlockAt}
+use Rattle.mesh_model.proofs.TreeLemmas.Nodes.{nodes_sorted}
 use Rattle.mesh_model.specs.declared.geometry.Shape.{Shape}
 use Rattle.mesh_model.specs.Geometry.Blocks.{child_block, parent_block, InDomain}
 use Rattle.mesh_model.specs.Geometry.Limits.{most_nodes}
@@ -18,7 +19,7 @@ use Rattle.block_tree.proofs.Equal.{equal_test, equal_shows, equal_says}
 use Rattle.block_tree.proofs.Facts.{known}
 use Rattle.block_tree.proofs.Leaves.{node_inside, node_split, leaf_node, parent_node, child_node}
 use Rattle.block_tree.proofs.Members.{in_at}
-use Rattle.block_tree.proofs.Next.{all_sorted, has_key, node_key, node_room, next_child, next_other}
+use Rattle.block_tree.proofs.Next.{has_key, node_key, node_room, next_child, next_other}
 
 pub most_few : (s : Shape) → most_nodes s ≤ 8192
 most_few s = elim (cases_Bool (s.g == 4)) [
@@ -45,7 +46,7 @@ module _ (t : Tree) where
   -- ---- the list that is kept
 
   pub kept_sorted : Sorted t.nodes.items
-  kept_sorted = let tree = known t in subst (λ u. Sorted u) tree.whole (all_sorted (grid_of t) tree.valid tree.order tree.few)
+  kept_sorted = let tree = known t in subst (λ u. Sorted u) tree.whole (nodes_sorted (grid_of t) tree.valid tree.order)
 
   pub kept_key : (b : BlockAt) → IsIn b t.nodes.items → HasKey b
   kept_key b i = let tree = known t in node_key (grid_of t) tree.valid tree.order tree.few b (subst (λ u. IsIn b u) (sym tree.whole) i)

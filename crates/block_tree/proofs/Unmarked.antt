@@ -18,6 +18,5 @@ module _ (g : Grid) (marks : Marks) (n k : ℕ) (refine : marks.refine.items ≡
   pub fits_unmarked : length (nodes g.leaves) ≤ n → IsMarksOf g marks
   fits_unmarked h = record {
     room = subst (λ m. length (nodes g.leaves) ≤ m) (sym (ap (λ (u : List Bool). length u) refine ∙ length-replicate n false)) h;
-    refine = λ b t. let no = unmarked.refine b in cc;
-    derefine = λ b t. let no = unmarked.derefine b in cc;
+    fit = record { refine = λ b t. let no = unmarked.refine b in cc; derefine = λ b t. let no = unmarked.derefine b in cc };
   }

@@ -1,7 +1,8 @@
 -- Marks on leaves.
-use Rattle.std.specs.Prelude.{◌≡◌, ℕ, ◌<◌, ◌≤◌, Bool, true, false, length}
+use Rattle.std.specs.Prelude.{◌≡◌, ℕ, ◌≤◌, Bool, false, length}
 use Rattle.amr_num.specs.declared.BlockAt.{BlockAt}
-use Rattle.mesh_model.specs.Tree.Order.{nodes, IsIn}
+use Rattle.mesh_model.specs.Tree.Order.{nodes}
+use Rattle.mesh_model.specs.Tree.MarkedGrid.{MarkedGrid, MarksFit}
 use Rattle.mesh_model.specs.Tree.Kinds.{Grid}
 use Rattle.block_tree.specs.declared.marks.Marks.{Marks}
 use Rattle.block_tree.specs.Numbered.{flag_in, blocks_of}
@@ -24,11 +25,14 @@ refine_of g marks = blocks_of g (refine_at marks)
 abbrev pub derefine_of : Grid → Marks → BlockAt → Bool
 derefine_of g marks = blocks_of g (derefine_at marks)
 
--- there is room for all nodes of the grid, and marks stand where a mesh with that grid may have them
+-- the grid with these marks
+abbrev pub marked_grid : Grid → Marks → MarkedGrid
+marked_grid g marks = record { grid = g; refine = refine_of g marks; derefine = derefine_of g marks }
+
+-- there is room for all nodes of the grid, and marks stand where they may
 pub record IsMarksOf (g : Grid) (marks : Marks) : Type 0 where
   pub room : length (nodes g.leaves) ≤ room marks
-  pub refine : (b : BlockAt) → refine_of g marks b ≡ true → IsIn b g.leaves × (b.level < g.shape.max)
-  pub derefine : (b : BlockAt) → derefine_of g marks b ≡ true → IsIn b g.leaves × (g.shape.min < b.level)
+  pub fit : MarksFit (marked_grid g marks)
 
 -- no block of the grid is marked
 pub record IsUnmarked (g : Grid) (marks : Marks) : Type 0 where

@@ -3,5 +3,4 @@ pub mod Sets
 pub mod Valued
 pub mod RefinedLevels
 pub mod MergedLevels
-pub mod AnyNumbers
 pub mod Plans

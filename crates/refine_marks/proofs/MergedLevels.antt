@@ -7,10 +7,10 @@ use Rattle.mesh_model.specs.Geometry.Blocks.{child_block, children, parent_block
 use Rattle.mesh_model.specs.Tree.Closure.{is_refined, is_ready, is_blocked, merged, is_merged}
 use Rattle.mesh_model.specs.Tree.Order.{IsIn}
 use Rattle.mesh_model.specs.Tree.Kinds.{Grid, is_leaf_block}
-use Rattle.mesh_model.specs.Fields.Plain.{Mesh}
+use Rattle.mesh_model.specs.Tree.MarkedGrid.{MarkedGrid}
 use Rattle.mesh_model.specs.Geometry.Touch.{touches}
 use Rattle.mesh_model.specs.Tree.ValidGrid.{Valid}
-use Rattle.mesh_model.specs.Fields.Valid.{ValidMesh}
+use Rattle.mesh_model.specs.Tree.MarkedGrid.{ValidMarkedGrid}
 use Rattle.mesh_model.proofs.TreeLemmas.Closure.{from_children}
 use Rattle.mesh_model.proofs.TreeLemmas.Levels.{is_child}
 use Rattle.mesh_model.proofs.TreeLemmas.Ruled.{merged_may}
@@ -23,7 +23,7 @@ use Rattle.block_tree.specs.Numbered.{IsNode, IsNumberOf, block_at, flag_in}
 use Rattle.block_tree.specs.declared.tree.Tree.{Tree}
 use Rattle.block_tree.specs.GridOf.{grid_of}
 use Rattle.block_tree.proofs.Flags.{set_at}
-use Rattle.refine_marks.specs.Planned.{mesh_of}
+use Rattle.refine_marks.specs.Planned.{marked_by}
 use Rattle.refine_marks.specs.Closing.{stays_beside, may_merge, merged_with, merged_from}
 use Rattle.refine_marks.specs.Flags.{AreFlagsOf, touches_any}
 use Rattle.refine_marks.proofs.RefinedLevels.{coarse_test, not_level, or_false, touches_same}
@@ -57,25 +57,25 @@ no_leaf_below g valid b q h = refuted _ (λ t.
     let none = leaf_whole g valid (child_block b q) b (leaf_says g (child_block b q) t) (child_in (child_block b q) b (is_child b q)) (omega arith) in
     cc)
 
-pub unready_below : (m : Mesh) → Valid m.grid → (b : BlockAt) (q : ℕ) → is_leaf_block m.grid b ≡ true → is_ready m (child_block b q) ≡ false
+pub unready_below : (m : MarkedGrid) → Valid m.grid → (b : BlockAt) (q : ℕ) → is_leaf_block m.grid b ≡ true → is_ready m (child_block b q) ≡ false
 unfolding is_ready
 unready_below m valid b q h = rw (no_leaf_below m.grid valid b q h) refl
 
 -- ---- one level
 
-pub merged_off : (m : Mesh) (kept chosen : BlockAt → Bool) (l : ℕ) (b : BlockAt) → (b.level ≡ l → ⊥) → merged_with m l kept chosen b ≡ chosen b
+pub merged_off : (m : MarkedGrid) (kept chosen : BlockAt → Bool) (l : ℕ) (b : BlockAt) → (b.level ≡ l → ⊥) → merged_with m l kept chosen b ≡ chosen b
 unfolding merged_with
 merged_off m kept chosen l b h = rw (not_level b.level l h) (or_false (chosen b))
 
-pub merged_true : (m : Mesh) (kept chosen : BlockAt → Bool) (l : ℕ) (b : BlockAt) → may_merge m l kept b ≡ true → merged_with m l kept chosen b ≡ true
+pub merged_true : (m : MarkedGrid) (kept chosen : BlockAt → Bool) (l : ℕ) (b : BlockAt) → may_merge m l kept b ≡ true → merged_with m l kept chosen b ≡ true
 unfolding merged_with
 merged_true m kept chosen l b h = or_right (chosen b) _ h
 
-pub merged_false : (m : Mesh) (kept chosen : BlockAt → Bool) (l : ℕ) (b : BlockAt) → may_merge m l kept b ≡ false → merged_with m l kept chosen b ≡ chosen b
+pub merged_false : (m : MarkedGrid) (kept chosen : BlockAt → Bool) (l : ℕ) (b : BlockAt) → may_merge m l kept b ≡ false → merged_with m l kept chosen b ≡ chosen b
 unfolding merged_with
 merged_false m kept chosen l b h = ap (λ u. chosen b || u) h ∙ or_false (chosen b)
 
-merged_on : (m : Mesh) (kept chosen : BlockAt → Bool) (l : ℕ) (b : BlockAt) → chosen b ≡ false → merged_with m l kept chosen b ≡ may_merge m l kept b
+merged_on : (m : MarkedGrid) (kept chosen : BlockAt → Bool) (l : ℕ) (b : BlockAt) → chosen b ≡ false → merged_with m l kept chosen b ≡ may_merge m l kept b
 unfolding merged_with
 merged_on m kept chosen l b h = ap (λ u. u || may_merge m l kept b) h
 
@@ -84,10 +84,10 @@ stays_same : (p q : BlockAt → Bool) (b : BlockAt) → p (parent_block b) ≡ q
 unfolding stays_beside
 stays_same p q b h = ap (λ u. not (nat_lt 0 b.level && u)) h
 
-may_same : (m : Mesh) (p q : BlockAt → Bool) (l : ℕ) (b : BlockAt) → ((leaf : BlockAt) → leaf.level ≡ suc (suc l) → p leaf ≡ q leaf) → may_merge m l p b ≡ may_merge m l q b
+may_same : (m : MarkedGrid) (p q : BlockAt → Bool) (l : ℕ) (b : BlockAt) → ((leaf : BlockAt) → leaf.level ≡ suc (suc l) → p leaf ≡ q leaf) → may_merge m l p b ≡ may_merge m l q b
 may_same m p q l b h = ap (λ u. (b.level == l) && list_all (is_ready m) (children b) && not (touches_any m.grid (is_refined m) (suc l) b) && not u) (touches_same m.grid p q (suc (suc l)) b (λ leaf i e. h leaf e))
 
-module _ (m : Mesh) (valid : ValidMesh m) where
+module _ (m : MarkedGrid) (valid : ValidMarkedGrid m) where
   -- a parent is merged where it may be beside the finer leaves that stay
   merged_step : (b : BlockAt) → b.level < 10 → is_merged m b ≡ may_merge m b.level (stays_beside (is_merged m)) b
   unfolding merged is_blocked touches_any stays_beside
@@ -142,8 +142,8 @@ module _ (m : Mesh) (valid : ValidMesh m) where
 
 -- ---- single tests
 
-pub ready_is : (t : Tree) (marks : Marks) (refine : List Bool) (node : ℕ) → AreFlagsOf (grid_of t) (is_refined (mesh_of t marks)) refine → IsNode (grid_of t) node →
-    (is_leaf_block (grid_of t) (block_at (grid_of t) node) && derefine_at marks node && not (flag_in refine node) && nat_lt t.shape.min (block_at (grid_of t) node).level) ≡ is_ready (mesh_of t marks) (block_at (grid_of t) node)
+pub ready_is : (t : Tree) (marks : Marks) (refine : List Bool) (node : ℕ) → AreFlagsOf (grid_of t) (is_refined (marked_by t marks)) refine → IsNode (grid_of t) node →
+    (is_leaf_block (grid_of t) (block_at (grid_of t) node) && derefine_at marks node && not (flag_in refine node) && nat_lt t.shape.min (block_at (grid_of t) node).level) ≡ is_ready (marked_by t marks) (block_at (grid_of t) node)
 unfolding is_ready
 ready_is t marks refine node are i =
     ap₂ (λ d r. is_leaf_block (grid_of t) (block_at (grid_of t) node) && d && not r && nat_lt t.shape.min (block_at (grid_of t) node).level)

@@ -4,9 +4,9 @@ use Rattle.amr_num.specs.declared.BlockAt.{BlockAt}
 use Rattle.mesh_model.specs.Tree.Closure.{is_refined, is_merged}
 use Rattle.mesh_model.specs.Tree.Order.{IsIn, nodes}
 use Rattle.mesh_model.specs.Tree.Kinds.{Grid}
-use Rattle.mesh_model.specs.Fields.Plain.{Mesh}
+use Rattle.mesh_model.specs.Tree.MarkedGrid.{MarkedGrid}
 use Rattle.mesh_model.specs.Tree.Regrown.{new_grid, regrown}
-use Rattle.mesh_model.specs.Fields.Valid.{ValidMesh}
+use Rattle.mesh_model.specs.Tree.MarkedGrid.{ValidMarkedGrid}
 use Rattle.mesh_model.proofs.TreeLemmas.Closure.{refined_leaf}
 use Rattle.mesh_model.proofs.TreeLemmas.Levels.{is_child}
 use Rattle.mesh_model.proofs.TreeLemmas.Nodes.{in_node}
@@ -20,7 +20,7 @@ use Rattle.block_tree.specs.GridOf.{grid_of}
 use Rattle.block_tree.specs.Marked.{IsMarksOf}
 use Rattle.block_tree.specs.Numbered.{blocks_of, flag_in}
 use Rattle.refine_marks.specs.Flags.{AreFlagsOf}
-use Rattle.refine_marks.specs.Planned.{mesh_of, IsLeast, IsGreatest}
+use Rattle.refine_marks.specs.Planned.{marked_by, IsLeast, IsGreatest}
 use Rattle.refine_marks.proofs.Sets.{set_is}
 use Rattle.refine_marks.proofs.Valued.{marked_valid}
 
@@ -28,10 +28,10 @@ module _ (t : Tree) (marks : Marks) (fit : IsMarksOf (grid_of t) marks) where
   abbrev g : Grid
   g = grid_of t
 
-  abbrev m : Mesh
-  m = mesh_of t marks
+  abbrev m : MarkedGrid
+  m = marked_by t marks
 
-  valid : ValidMesh m
+  valid : ValidMarkedGrid m
   valid = marked_valid t marks fit
 
   refined_in : (b : BlockAt) → is_refined m b ≡ true → IsIn b (nodes g.leaves)

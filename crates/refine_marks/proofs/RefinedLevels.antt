@@ -6,9 +6,9 @@ use Rattle.amr_num.specs.declared.BlockAt.{BlockAt}
 use Rattle.mesh_model.specs.Tree.Closure.{refined, is_refined}
 use Rattle.mesh_model.specs.Tree.Order.{IsIn}
 use Rattle.mesh_model.specs.Tree.Kinds.{Grid, is_leaf_block}
-use Rattle.mesh_model.specs.Fields.Plain.{Mesh}
+use Rattle.mesh_model.specs.Tree.MarkedGrid.{MarkedGrid}
 use Rattle.mesh_model.specs.Geometry.Touch.{touches}
-use Rattle.mesh_model.specs.Fields.Valid.{ValidMesh}
+use Rattle.mesh_model.specs.Tree.MarkedGrid.{ValidMarkedGrid}
 use Rattle.mesh_model.proofs.TreeLemmas.Closure.{refined_leaf}
 use Rattle.mesh_model.proofs.TreeLemmas.Ruled.{room, refined_may}
 use Rattle.mesh_model.proofs.TreeLemmas.Tests.{and_left, or_right, refuted}
@@ -69,7 +69,7 @@ either_or true false t h = let bad = h refl in cc
 either_or false true t h = refl
 either_or false false t h = refl
 
-module _ (m : Mesh) (valid : ValidMesh m) where
+module _ (m : MarkedGrid) (valid : ValidMarkedGrid m) where
   -- a leaf is refined where it is marked or touches a refined leaf one level finer
   refined_step : (b : BlockAt) → b.level < 10 → is_refined m b ≡ (is_leaf_block m.grid b && (m.refine b || touches_any m.grid (is_refined m) (suc b.level) b))
   unfolding refined touches_any
@@ -101,7 +101,7 @@ module _ (m : Mesh) (valid : ValidMesh m) where
           let finer : touches_any m.grid (refined_from m (suc l)) (suc l) b ≡ touches_any m.grid (is_refined m) (suc l) b = touches_same m.grid _ _ (suc l) b (λ leaf i e. from_fine (suc l) leaf (omega arith)) in
           spread_on m.grid (refined_from m (suc l)) l b level
           ∙ ap₂ (λ r t. r || (is_leaf_block m.grid b && t)) (from_coarse (suc l) b (omega arith)) finer
-          ∙ either_or (m.refine b) (is_leaf_block m.grid b) _ (λ t. leaf_shows m.grid b (valid.marks.refine b t).0)
+          ∙ either_or (m.refine b) (is_leaf_block m.grid b) _ (λ t. (valid.marks.refine b t).0)
           ∙ ap (λ k. is_leaf_block m.grid b && (m.refine b || touches_any m.grid (is_refined m) (suc k) b)) (sym level)
           ∙ sym (refined_step b (omega arith))
           ∙ sym (from_fine l b (omega arith))

@@ -12,7 +12,7 @@ ghost use Rattle.mesh_model.specs.Tree.Closure.{is_merged, is_refined};
 ghost use Rattle.refine_marks.specs.Closing as closing;
 ghost use Rattle.refine_marks.specs.Closing.{merged_with, stays_beside};
 ghost use Rattle.refine_marks.specs.Flags.{AreFlagsAt, AreFlagsOf, IsOnePerNode};
-ghost use Rattle.refine_marks.specs.Planned.{mesh_of};
+ghost use Rattle.refine_marks.specs.Planned.{marked_by};
 
 use crate::flag_lists::unflagged;
 use crate::neighbours::touches_flagged;
@@ -24,9 +24,9 @@ use std::alloc::Global;
 /// merging leaves, and not refined.
 fn is_ready(tree: &Tree, marks: &Marks, refine: &[bool], node: u32) -> bool
     requires marks { IsMarksOf (grid_of tree.now) marks.now }
-    requires refine { AreFlagsOf (grid_of tree.now) (is_refined (mesh_of tree.now marks.now)) refine.now }
+    requires refine { AreFlagsOf (grid_of tree.now) (is_refined (marked_by tree.now marks.now)) refine.now }
     requires node { IsNode (grid_of tree.now) node }
-    ensures { result ≡ closure.is_ready (mesh_of tree.now marks.now) (block_at (grid_of tree.now) node) }
+    ensures { result ≡ closure.is_ready (marked_by tree.now marks.now) (block_at (grid_of tree.now) node) }
 {
     tree.is_leaf(node)
         && marks.derefine(node)
@@ -37,10 +37,10 @@ fn is_ready(tree: &Tree, marks: &Marks, refine: &[bool], node: u32) -> bool
 /// Whether a child of a node is such a leaf. A leaf has no child.
 fn is_ready_child(tree: &Tree, marks: &Marks, refine: &[bool], node: u32, octant: u32) -> bool
     requires marks { IsMarksOf (grid_of tree.now) marks.now }
-    requires refine { AreFlagsOf (grid_of tree.now) (is_refined (mesh_of tree.now marks.now)) refine.now }
+    requires refine { AreFlagsOf (grid_of tree.now) (is_refined (marked_by tree.now marks.now)) refine.now }
     requires node { IsNode (grid_of tree.now) node }
     requires octant { octant < 8 }
-    ensures { result ≡ closure.is_ready (mesh_of tree.now marks.now) (child_block (block_at (grid_of tree.now) node) octant) }
+    ensures { result ≡ closure.is_ready (marked_by tree.now marks.now) (child_block (block_at (grid_of tree.now) node) octant) }
 {
     match tree.child(node, octant) {
         Some(child) => is_ready(tree, marks, refine, child),
@@ -51,9 +51,9 @@ fn is_ready_child(tree: &Tree, marks: &Marks, refine: &[bool], node: u32, octant
 /// Whether the eight children of a node are such leaves.
 fn has_ready_children(tree: &Tree, marks: &Marks, refine: &[bool], node: u32) -> bool
     requires marks { IsMarksOf (grid_of tree.now) marks.now }
-    requires refine { AreFlagsOf (grid_of tree.now) (is_refined (mesh_of tree.now marks.now)) refine.now }
+    requires refine { AreFlagsOf (grid_of tree.now) (is_refined (marked_by tree.now marks.now)) refine.now }
     requires node { IsNode (grid_of tree.now) node }
-    ensures { result ≡ list_all (closure.is_ready (mesh_of tree.now marks.now)) (children (block_at (grid_of tree.now) node)) }
+    ensures { result ≡ list_all (closure.is_ready (marked_by tree.now marks.now)) (children (block_at (grid_of tree.now) node)) }
 {
     for octant in 0..8 {
         if !is_ready_child(tree, marks, refine, node, octant) {
@@ -73,13 +73,13 @@ fn may_merge(
     level: u32,
 ) -> bool
     requires marks { IsMarksOf (grid_of tree.now) marks.now }
-    requires refine { AreFlagsOf (grid_of tree.now) (is_refined (mesh_of tree.now marks.now)) refine.now }
+    requires refine { AreFlagsOf (grid_of tree.now) (is_refined (marked_by tree.now marks.now)) refine.now }
     requires stays { IsOnePerNode (grid_of tree.now) stays.now }
     requires node { IsNode (grid_of tree.now) node }
     requires level { level < 10 }
     ensures { let b = block_at (grid_of tree.now) node in
         (kept : BlockAt → Bool) → AreFlagsAt (grid_of tree.now) (suc (suc level)) kept stays.now
-        → result ≡ closing.may_merge (mesh_of tree.now marks.now) level kept b }
+        → result ≡ closing.may_merge (marked_by tree.now marks.now) level kept b }
 {
     let block = tree.at(node);
     block.level == level
@@ -98,12 +98,12 @@ fn merge_level(
     level: u32,
 )
     requires marks { IsMarksOf (grid_of tree.now) marks.now }
-    requires refine { AreFlagsOf (grid_of tree.now) (is_refined (mesh_of tree.now marks.now)) refine.now }
+    requires refine { AreFlagsOf (grid_of tree.now) (is_refined (marked_by tree.now marks.now)) refine.now }
     requires stays { IsOnePerNode (grid_of tree.now) stays.now }
     requires merge { IsOnePerNode (grid_of tree.now) merge.old }
     requires level { level < 10 }
     ensures { (kept set : BlockAt → Bool) → AreFlagsOf (grid_of tree.now) kept stays.now → AreFlagsOf (grid_of tree.now) set merge.old
-        → AreFlagsOf (grid_of tree.now) (merged_with (mesh_of tree.now marks.now) level kept set) merge.new }
+        → AreFlagsOf (grid_of tree.now) (merged_with (marked_by tree.now marks.now) level kept set) merge.new }
 {
     for node in 0..tree.len() {
         if may_merge(tree, marks, refine, stays, node, level) {
@@ -141,10 +141,10 @@ fn flag_kept(tree: &Tree, merge: &[bool], stays: &mut [bool])
 /// merged parent.
 fn flag_merged(tree: &Tree, marks: &Marks, refine: &[bool], stays: &mut [bool], merge: &mut [bool])
     requires marks { IsMarksOf (grid_of tree.now) marks.now }
-    requires refine { AreFlagsOf (grid_of tree.now) (is_refined (mesh_of tree.now marks.now)) refine.now }
+    requires refine { AreFlagsOf (grid_of tree.now) (is_refined (marked_by tree.now marks.now)) refine.now }
     requires stays { IsOnePerNode (grid_of tree.now) stays.old }
     requires merge { AreFlagsOf (grid_of tree.now) (λ b. false) merge.old }
-    ensures { AreFlagsOf (grid_of tree.now) (is_merged (mesh_of tree.now marks.now)) merge.new }
+    ensures { AreFlagsOf (grid_of tree.now) (is_merged (marked_by tree.now marks.now)) merge.new }
 {
     for level in (0..tree.shape().max).rev() {
         flag_kept(tree, merge, stays);
@@ -160,8 +160,8 @@ pub fn merged(
     refine: &[bool],
 ) -> Result<Vec<bool>, OutOfMemory>
     requires marks { IsMarksOf (grid_of tree.now) marks.now }
-    requires refine { AreFlagsOf (grid_of tree.now) (is_refined (mesh_of tree.now marks.now)) refine.now }
-    ensures { IfOk result (λ flags. AreFlagsOf (grid_of tree.now) (is_merged (mesh_of tree.now marks.now)) flags.items) }
+    requires refine { AreFlagsOf (grid_of tree.now) (is_refined (marked_by tree.now marks.now)) refine.now }
+    ensures { IfOk result (λ flags. AreFlagsOf (grid_of tree.now) (is_merged (marked_by tree.now marks.now)) flags.items) }
 {
     let mut merge = unflagged(alloc, tree)?;
     let mut stays = unflagged(alloc, tree)?;

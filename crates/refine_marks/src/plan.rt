@@ -8,7 +8,7 @@ ghost use Rattle.mesh_model.specs.Tree.Closure.{is_merged, is_refined};
 ghost use Rattle.mesh_model.specs.Tree.Order.{nodes};
 ghost use Rattle.mesh_model.specs.Tree.Regrown.{new_grid, regrown};
 ghost use Rattle.refine_marks.specs.Flags.{IsOnePerNode};
-ghost use Rattle.refine_marks.specs.Planned.{IsGreatest, IsLeast, OfEachMesh, merged_by, refined_by};
+ghost use Rattle.refine_marks.specs.Planned.{IsGreatest, IsLeast, marked_by, merged_by, refined_by};
 
 use crate::merging::merged;
 use crate::refining::refined;
@@ -33,14 +33,14 @@ pub fn close(alloc: Global, tree: &Tree, marks: &Marks) -> Result<Plan, OutOfMem
     requires { IsMarksOf (grid_of tree.now) marks.now }
     ensures refine_flags { IfOk result (λ plan. IsOnePerNode (grid_of tree.now) plan.refine.items) }
     ensures merge_flags { IfOk result (λ plan. IsOnePerNode (grid_of tree.now) plan.merge.items) }
-    ensures refine { IfOk result (λ plan. OfEachMesh tree.now marks.now
-        (λ m. plan.refine.items ≡ map (is_refined m) (nodes m.grid.leaves))) }
-    ensures merge { IfOk result (λ plan. OfEachMesh tree.now marks.now
-        (λ m. plan.merge.items ≡ map (is_merged m) (nodes m.grid.leaves))) }
-    ensures least { IfOk result (λ plan. OfEachMesh tree.now marks.now (λ m. IsLeast m (refined_by m.grid plan))) }
-    ensures greatest { IfOk result (λ plan. OfEachMesh tree.now marks.now (λ m. IsGreatest m (merged_by m.grid plan))) }
-    ensures new_grid { IfOk result (λ plan. OfEachMesh tree.now marks.now
-        (λ m. new_grid m ≡ regrown m.grid (refined_by m.grid plan) (merged_by m.grid plan))) }
+    ensures refine { IfOk result (λ plan.
+        plan.refine.items ≡ map (is_refined (marked_by tree.now marks.now)) (nodes (grid_of tree.now).leaves)) }
+    ensures merge { IfOk result (λ plan.
+        plan.merge.items ≡ map (is_merged (marked_by tree.now marks.now)) (nodes (grid_of tree.now).leaves)) }
+    ensures least { IfOk result (λ plan. IsLeast (marked_by tree.now marks.now) (refined_by (grid_of tree.now) plan)) }
+    ensures greatest { IfOk result (λ plan. IsGreatest (marked_by tree.now marks.now) (merged_by (grid_of tree.now) plan)) }
+    ensures new_grid { IfOk result (λ plan. new_grid (marked_by tree.now marks.now)
+        ≡ regrown (grid_of tree.now) (refined_by (grid_of tree.now) plan) (merged_by (grid_of tree.now) plan)) }
     ensures may_regrow { IfOk result (λ plan. MayRegrow (grid_of tree.now)
         (refined_by (grid_of tree.now) plan) (merged_by (grid_of tree.now) plan)) }
 {

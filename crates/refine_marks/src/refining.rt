@@ -9,7 +9,7 @@ ghost use Rattle.mesh_model.specs.Tree.Closure.{is_refined};
 ghost use Rattle.mesh_model.specs.Tree.Kinds.{is_leaf_block};
 ghost use Rattle.refine_marks.specs.Closing.{spread_to};
 ghost use Rattle.refine_marks.specs.Flags.{AreFlagsAt, AreFlagsOf, IsOnePerNode, touches_any};
-ghost use Rattle.refine_marks.specs.Planned.{mesh_of};
+ghost use Rattle.refine_marks.specs.Planned.{marked_by};
 
 use crate::flag_lists::unflagged;
 use crate::neighbours::touches_flagged;
@@ -60,7 +60,7 @@ fn spread(tree: &Tree, flags: &mut [bool], level: u32)
 fn flag_refined(tree: &Tree, marks: &Marks, flags: &mut [bool])
     requires marks { IsMarksOf (grid_of tree.now) marks.now }
     requires flags { IsOnePerNode (grid_of tree.now) flags.old }
-    ensures { AreFlagsOf (grid_of tree.now) (is_refined (mesh_of tree.now marks.now)) flags.new }
+    ensures { AreFlagsOf (grid_of tree.now) (is_refined (marked_by tree.now marks.now)) flags.new }
 {
     flag_marked(tree, marks, flags);
     for level in (0..tree.shape().max).rev() {
@@ -71,7 +71,7 @@ fn flag_refined(tree: &Tree, marks: &Marks, flags: &mut [bool])
 /// The refined leaves.
 pub fn refined(alloc: Global, tree: &Tree, marks: &Marks) -> Result<Vec<bool>, OutOfMemory>
     requires { IsMarksOf (grid_of tree.now) marks.now }
-    ensures { IfOk result (λ flags. AreFlagsOf (grid_of tree.now) (is_refined (mesh_of tree.now marks.now)) flags.items) }
+    ensures { IfOk result (λ flags. AreFlagsOf (grid_of tree.now) (is_refined (marked_by tree.now marks.now)) flags.items) }
 {
     let mut flags = unflagged(alloc, tree)?;
     flag_refined(tree, marks, &mut flags);

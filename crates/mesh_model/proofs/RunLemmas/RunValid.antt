@@ -34,13 +34,11 @@ use Rattle.mesh_model.specs.Geometry.Blocks.{is_same_block}
 use Rattle.mesh_model.specs.Run.Stops.{nodes_of, or_else, range_of, refusal}
 use Rattle.mesh_model.specs.Tree.ValidGrid.{FewNodes}
 use Rattle.mesh_model.specs.Fields.Valid.{InRange, OfDeclared, OnLeaves, ValidMesh}
-use Rattle.mesh_model.specs.Tree.Order.{IsIn}
 use Rattle.mesh_model.specs.Fields.Views.{edge_view}
 use Rattle.mesh_model.proofs.FieldLemmas.FieldsKept.{advect_on_leaves, faces_on_leaves, regrid_on_leaves}
 use Rattle.mesh_model.proofs.FieldLemmas.KeptValid.{advect_declared, advect_valid, faces_declared, faces_valid, regrid_declared, regrid_valid}
 use Rattle.mesh_model.proofs.FieldLemmas.LeafSums.{off_leaf}
 use Rattle.mesh_model.proofs.GeometryLemmas.ShapeLimits.{cells_some}
-use Rattle.mesh_model.proofs.TreeLemmas.Tiling.{leaf_says}
 use Rattle.mesh_model.proofs.FieldLemmas.Walking.{contents_in_range, edges_in_range, faces_in_range, outs_in_range}
 
 -- ---- no reason to refuse
@@ -264,8 +262,8 @@ set_edge_valid m at value valid there here small = record {
 -- ---- marks
 
 marks_valid : (m : Mesh) (refine derefine : BlockAt → Bool) → ValidMesh m →
-    ((b : BlockAt) → refine b ≡ true → IsIn b m.grid.leaves × (b.level < m.grid.shape.max)) →
-    ((b : BlockAt) → derefine b ≡ true → IsIn b m.grid.leaves × (m.grid.shape.min < b.level)) → ValidMesh (with_marks m refine derefine)
+    ((b : BlockAt) → refine b ≡ true → (is_leaf_block m.grid b ≡ true) × (b.level < m.grid.shape.max)) →
+    ((b : BlockAt) → derefine b ≡ true → (is_leaf_block m.grid b ≡ true) × (m.grid.shape.min < b.level)) → ValidMesh (with_marks m refine derefine)
 marks_valid m refine derefine valid refines derefines = record {
   grid = valid.grid;
   order = valid.order;
@@ -289,19 +287,19 @@ some_more P found old new rest b h = elim (or_cases (found b) (old b) h) [ inl t
 
 mark_refine_valid : (m : Mesh) (at : BlockAt) → ValidMesh m → is_leaf_block m.grid at ≡ true → nat_lt at.level m.grid.shape.max ≡ true → ValidMesh (mark_refine m at)
 unfolding mark_refine
-mark_refine_valid m at valid leaf low = marks_valid m _ _ valid (one_more (λ b. IsIn b m.grid.leaves × (b.level < m.grid.shape.max)) m.refine at (leaf_says m.grid at leaf, ltb-true _ _ low) valid.marks.refine) valid.marks.derefine
+mark_refine_valid m at valid leaf low = marks_valid m _ _ valid (one_more (λ b. (is_leaf_block m.grid b ≡ true) × (b.level < m.grid.shape.max)) m.refine at (leaf, ltb-true _ _ low) valid.marks.refine) valid.marks.derefine
 
 mark_derefine_valid : (m : Mesh) (at : BlockAt) → ValidMesh m → is_leaf_block m.grid at ≡ true → nat_lt m.grid.shape.min at.level ≡ true → ValidMesh (mark_derefine m at)
 unfolding mark_derefine
-mark_derefine_valid m at valid leaf low = marks_valid m _ _ valid valid.marks.refine (one_more (λ b. IsIn b m.grid.leaves × (m.grid.shape.min < b.level)) m.derefine at (leaf_says m.grid at leaf, ltb-true _ _ low) valid.marks.derefine)
+mark_derefine_valid m at valid leaf low = marks_valid m _ _ valid valid.marks.refine (one_more (λ b. (is_leaf_block m.grid b ≡ true) × (m.grid.shape.min < b.level)) m.derefine at (leaf, ltb-true _ _ low) valid.marks.derefine)
 
 refine_where_valid : (m : Mesh) (var : ℕ) (above : ℤ) → ValidMesh m → ValidMesh (refine_where m var above)
 unfolding refine_where
-refine_where_valid m var above valid = marks_valid m _ _ valid (some_more (λ b. IsIn b m.grid.leaves × (b.level < m.grid.shape.max)) _ m.refine (λ b h. let parts = and_parts _ _ (and_parts _ _ h).0 in (leaf_says m.grid b parts.0, ltb-true _ _ parts.1)) valid.marks.refine) valid.marks.derefine
+refine_where_valid m var above valid = marks_valid m _ _ valid (some_more (λ b. (is_leaf_block m.grid b ≡ true) × (b.level < m.grid.shape.max)) _ m.refine (λ b h. let parts = and_parts _ _ (and_parts _ _ h).0 in (parts.0, ltb-true _ _ parts.1)) valid.marks.refine) valid.marks.derefine
 
 derefine_where_valid : (m : Mesh) (var : ℕ) (below : ℤ) → ValidMesh m → ValidMesh (derefine_where m var below)
 unfolding derefine_where
-derefine_where_valid m var below valid = marks_valid m _ _ valid valid.marks.refine (some_more (λ b. IsIn b m.grid.leaves × (m.grid.shape.min < b.level)) _ m.derefine (λ b h. let parts = and_parts _ _ (and_parts _ _ h).0 in (leaf_says m.grid b parts.0, ltb-true _ _ parts.1)) valid.marks.derefine)
+derefine_where_valid m var below valid = marks_valid m _ _ valid valid.marks.refine (some_more (λ b. (is_leaf_block m.grid b ≡ true) × (m.grid.shape.min < b.level)) _ m.derefine (λ b h. let parts = and_parts _ _ (and_parts _ _ h).0 in (parts.0, ltb-true _ _ parts.1)) valid.marks.derefine)
 
 -- ---- steps
 

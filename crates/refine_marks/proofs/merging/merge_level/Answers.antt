@@ -2,7 +2,7 @@ use Rattle.std.proofs.Common.{◌+◌, ℕ, suc, Bool, true, subst, sym, ◌∙�
 use Rattle.block_tree.specs.GridOf.{grid_of}
 use Rattle.block_tree.specs.Numbered.{block_at}
 use Rattle.refine_marks.specs.Closing.{merged_with}
-use Rattle.refine_marks.specs.Planned.{mesh_of}
+use Rattle.refine_marks.specs.Planned.{marked_by}
 use Rattle.refine_marks.proofs.Flagged.{AreSetBelow, at_level, one_set, one_kept, all_set}
 use Rattle.refine_marks.proofs.MergedLevels.{merged_true, merged_false}
 use Rattle.refine_marks.proofs.merging.merge_level.Goals as goal
@@ -11,7 +11,7 @@ use Rattle.refine_marks.proofs.merging.merge_level.Goals.{then-may_merge, else-m
 pub loop-node-preserved : goal.loop-node-preserved
 loop-node-preserved c kept set are_kept are =
     let g = grid_of c.args.tree.now in
-    let m = mesh_of c.args.tree.now c.args.marks.now in
+    let m = marked_by c.args.tree.now c.args.marks.now in
     let l = c.args.level in
     let new : ℕ → Bool = λ k. merged_with m l kept set (block_at g k) in
     let node = c.loop-node.node in
@@ -26,4 +26,4 @@ loop-node-preserved c kept set are_kept are =
 pub returns : goal.returns
 returns c kept set are_kept are =
     let g = grid_of c.args.tree.now in
-    all_set g (merged_with (mesh_of c.args.tree.now c.args.marks.now) c.args.level kept set) c.args.merge.now c.loop-node.merge c.loop-node.node (c.loop-node.invariant kept set are_kept are) c.requires.merge (omega arith)
+    all_set g (merged_with (marked_by c.args.tree.now c.args.marks.now) c.args.level kept set) c.args.merge.now c.loop-node.merge c.loop-node.node (c.loop-node.invariant kept set are_kept are) c.requires.merge (omega arith)

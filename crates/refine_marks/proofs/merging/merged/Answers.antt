@@ -2,7 +2,7 @@ use Rattle.std.proofs.Common.{sym, subst, ◌∙◌}
 use Rattle.block_tree.specs.GridOf.{grid_of}
 use Rattle.mesh_model.specs.Tree.Closure.{is_merged}
 use Rattle.refine_marks.specs.Flags.{AreFlagsOf}
-use Rattle.refine_marks.specs.Planned.{mesh_of}
+use Rattle.refine_marks.specs.Planned.{marked_by}
 use Rattle.refine_marks.proofs.Flagged.{written}
 use Rattle.refine_marks.proofs.merging.merged.Goals as goal
 
@@ -10,4 +10,4 @@ pub returns : goal.returns
 returns c =
     let g = grid_of c.args.tree.now in
     let same = written c.in_ok-merge.merge c.flag_merged.new.merge (c.flag_merged.ensures.size ∙ sym c.in_ok-merge.ensures.size) in
-    subst (AreFlagsOf g (is_merged (mesh_of c.args.tree.now c.args.marks.now))) (sym same) c.flag_merged.ensures
+    subst (AreFlagsOf g (is_merged (marked_by c.args.tree.now c.args.marks.now))) (sym same) c.flag_merged.ensures

@@ -1,8 +1,8 @@
 use Rattle.block_tree.specs.GridOf.{grid_of}
 use Rattle.refine_marks.specs.Closing.{refined_from}
 use Rattle.refine_marks.specs.Flags.{AreFlagsOf}
-use Rattle.refine_marks.specs.Planned.{mesh_of}
+use Rattle.refine_marks.specs.Planned.{marked_by}
 use Rattle.refine_marks.proofs.refining.flag_refined.Given as goal
 
 abbrev pub invariant-loop-level : goal.invariant-loop-level
-invariant-loop-level l = AreFlagsOf (grid_of l.tree) (refined_from (mesh_of l.tree l.marks) l.level) l.flags
+invariant-loop-level l = AreFlagsOf (grid_of l.tree) (refined_from (marked_by l.tree l.marks) l.level) l.flags

@@ -1,7 +1,6 @@
-use Rattle.std.proofs.Common.{◌<◌, length, slice_set, arith}
+use Rattle.std.proofs.Common.{◌≡◌, true, ◌<◌, length, slice_set, arith}
 use Rattle.std.proofs.Math.ListN.{length-set}
-use Rattle.mesh_model.specs.Tree.Order.{IsIn}
-use Rattle.mesh_model.proofs.TreeLemmas.Tiling.{leaf_says}
+use Rattle.mesh_model.specs.Tree.Kinds.{is_leaf_block}
 use Rattle.block_tree.specs.GridOf.{grid_of}
 use Rattle.block_tree.specs.Numbered.{block_at, flag_in}
 use Rattle.block_tree.proofs.Flags.{set_put, put_keeps, flag_put, flag_kept}
@@ -37,8 +36,10 @@ returns-clause-marks c =
     let here2 : node < length derefine = omega arith in
     record {
       room = let size = length-set refine node c.args.refine in omega arith;
-      refine = put_keeps c.args.tree.now (λ b. IsIn b g.leaves × (b.level < g.shape.max)) (flag_in refine) (flag_in (slice_set refine node c.args.refine)) node c.args.refine c.requires.node (flag_put refine node c.args.refine here) (λ i other. flag_kept refine node i c.args.refine other) c.requires.marks.refine
-          (λ up. let may = c.requires.refine up in (leaf_says g (block_at g node) may.0, may.1));
-      derefine = put_keeps c.args.tree.now (λ b. IsIn b g.leaves × (g.shape.min < b.level)) (flag_in derefine) (flag_in (slice_set derefine node c.args.derefine)) node c.args.derefine c.requires.node (flag_put derefine node c.args.derefine here2) (λ i other. flag_kept derefine node i c.args.derefine other) c.requires.marks.derefine
-          (λ up. let may = c.requires.derefine up in (leaf_says g (block_at g node) may.0, may.1));
+      fit = record {
+      refine = put_keeps c.args.tree.now (λ b. (is_leaf_block g b ≡ true) × (b.level < g.shape.max)) (flag_in refine) (flag_in (slice_set refine node c.args.refine)) node c.args.refine c.requires.node (flag_put refine node c.args.refine here) (λ i other. flag_kept refine node i c.args.refine other) c.requires.marks.fit.refine
+          (λ up. c.requires.refine up);
+      derefine = put_keeps c.args.tree.now (λ b. (is_leaf_block g b ≡ true) × (g.shape.min < b.level)) (flag_in derefine) (flag_in (slice_set derefine node c.args.derefine)) node c.args.derefine c.requires.node (flag_put derefine node c.args.derefine here2) (λ i other. flag_kept derefine node i c.args.derefine other) c.requires.marks.fit.derefine
+          (λ up. c.requires.derefine up);
+      };
     }

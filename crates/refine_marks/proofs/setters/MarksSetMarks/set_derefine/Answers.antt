@@ -10,7 +10,7 @@ pub put-requires-clause-refine : goal.put-requires-clause-refine
 put-requires-clause-refine c t =
     let g = grid_of c.args.tree.now in
     let in_set = set_at c.args.tree.now (refine_at c.args.self.now) c.args.node c.requires.node ∙ sym c.refine-refine.ensures ∙ t in
-    (c.requires.leaf, (c.requires.marks.refine (block_at g c.args.node) in_set).1)
+    (c.requires.leaf, (c.requires.marks.fit.refine (block_at g c.args.node) in_set).1)
 
 pub returns-clause-refine : goal.returns-clause-refine
 returns-clause-refine c b =

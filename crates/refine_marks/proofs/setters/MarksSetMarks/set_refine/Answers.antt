@@ -10,7 +10,7 @@ pub put-requires-clause-derefine : goal.put-requires-clause-derefine
 put-requires-clause-derefine c t =
     let g = grid_of c.args.tree.now in
     let in_set = set_at c.args.tree.now (derefine_at c.args.self.now) c.args.node c.requires.node ∙ sym c.derefine-derefine.ensures ∙ t in
-    (c.requires.leaf, (c.requires.marks.derefine (block_at g c.args.node) in_set).1)
+    (c.requires.leaf, (c.requires.marks.fit.derefine (block_at g c.args.node) in_set).1)
 
 pub returns-clause-derefine : goal.returns-clause-derefine
 returns-clause-derefine c b =
