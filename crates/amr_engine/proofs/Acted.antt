@@ -10,13 +10,13 @@ use Rattle.mesh_model.specs.declared.language.script.Command.{Command}
 use Rattle.mesh_model.specs.declared.language.script.Command.TheVariants.{Advect, FillAll, FillBox, Regrid}
 use Rattle.mesh_model.specs.declared.language.script.Declared.{Declared}
 use Rattle.mesh_model.specs.declared.run.stops.Refusal.{Refusal}
-use Rattle.mesh_model.specs.Fields.Advect.{advect, three}
+use Rattle.mesh_model.specs.Fields.Advect.{advect, three, keeps_courant}
 use Rattle.mesh_model.specs.Language.Commands.{AreThree, IsBox, IsCellVariable, IsCommandOf, IsLeafNumber}
 use Rattle.mesh_model.specs.Fields.Fill.{fill_all, fill_box}
 use Rattle.mesh_model.specs.Fields.Plain.{Mesh}
 use Rattle.mesh_model.specs.Fields.RangeWalk.{is_above}
 use Rattle.mesh_model.specs.Run.Runs.{declared_in, mesh_after, text_of}
-use Rattle.mesh_model.specs.Run.Stops.{keeps_courant, refusal}
+use Rattle.mesh_model.specs.Run.Stops.{refusal}
 use Rattle.mesh_model.specs.Fields.Valid.{InRange, ValidMesh}
 use Rattle.mesh_model.proofs.RunLemmas.RunValid.{keeps_validity}
 use Rattle.outside_io.specs.Moved.{Takes}

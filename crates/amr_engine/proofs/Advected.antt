@@ -10,12 +10,12 @@ use Rattle.mesh_model.specs.declared.language.script.Declared.{Declared}
 use Rattle.mesh_model.specs.declared.fields.values.Group.TheVariants.{Cell}
 use Rattle.mesh_model.specs.declared.run.stops.Refusal.TheVariants as refusals
 use Rattle.mesh_model.specs.declared.fields.spot.Spot.TheVariants as spots
-use Rattle.mesh_model.specs.Fields.Advect.{advect, three}
+use Rattle.mesh_model.specs.Fields.Advect.{advect, three, keeps_courant}
 use Rattle.mesh_model.specs.Fields.Plain.{Mesh, on_cells}
 use Rattle.mesh_model.specs.Tree.Kinds.{is_leaf}
 use Rattle.mesh_model.specs.Fields.RangeWalk.{cell_above, cells_walked, first_cell_above, first_excess, is_above, out_above, out_excess}
 use Rattle.mesh_model.specs.Tree.Start.{start_grid, start_leaves}
-use Rattle.mesh_model.specs.Run.Stops.{keeps_courant, range_of, refusal}
+use Rattle.mesh_model.specs.Run.Stops.{range_of, refusal}
 use Rattle.mesh_model.specs.Fields.Totals.{block_sum, sum_over, total}
 use Rattle.mesh_model.specs.Fields.Valid.{ValidMesh}
 use Rattle.mesh_model.proofs.FieldLemmas.AdvectStops.{advect_excess}

@@ -4,14 +4,13 @@ use Rattle.amr_num.specs.Numbers.{Within}
 use Rattle.amr_num.specs.declared.CellAt.{CellAt}
 use Rattle.amr_num.specs.declared.FaceAt.{FaceAt}
 use Rattle.mesh_model.specs.declared.geometry.Shape.{Shape}
-use Rattle.mesh_model.specs.Fields.Advect.{advected, flux, three}
+use Rattle.mesh_model.specs.Fields.Advect.{advected, flux, three, keeps_courant}
 use Rattle.mesh_model.specs.Fields.Circulation.{net_flux}
 use Rattle.mesh_model.specs.Language.Commands.{AreThree}
 use Rattle.mesh_model.specs.Geometry.Limits.{IsShape}
 use Rattle.mesh_model.specs.Fields.Plain.{on_cells}
 use Rattle.mesh_model.specs.Fields.RangeWalk.{cells_walked, is_above}
 use Rattle.mesh_model.specs.Tree.Start.{start_grid, start_leaves}
-use Rattle.mesh_model.specs.Run.Stops.{keeps_courant}
 use Rattle.mesh_model.specs.Fields.Totals.{block_sum, sum_over}
 use Rattle.amr_engine.specs.declared.advection.Above.{Above}
 use Rattle.amr_engine.specs.declared.advection.Hindrance.{Hindrance}

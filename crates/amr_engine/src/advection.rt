@@ -54,7 +54,7 @@ fn speeds_together(speeds: [i64; 3]) -> u64
 }
 
 /// Whether the speeds keep the Courant limit: together they move at most one finest cell a step.
-#[tactic(auto, unfolding(mesh_model::specs::Run::Stops::keeps_courant))]
+#[tactic(auto, unfolding(mesh_model::specs::Fields::Advect::keeps_courant))]
 fn keeps_courant(shape: &Shape, speeds: [i64; 3]) -> bool
     requires level { shape.now.max ≤ 10 }
     requires speeds { AreThree (2 ^ 20) speeds }

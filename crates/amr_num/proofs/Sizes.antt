@@ -63,9 +63,6 @@ floor_size k most (negsuc a) h w =
     let below = div_below a k most h (omega arith) in
     omega (arith, ints)
 
-pub half_size : (most : ℕ) (a b : ℤ) → Within most a → Within most b → Within most (floor_div (a +ℤ b) 2)
-half_size most a b ha hb = let sum = within_add most most a b ha hb in floor_size 2 most (a +ℤ b) (omega arith) (omega arith)
-
 pub quarter_size : (most : ℕ) (a b c d : ℤ) → Within most a → Within most b → Within most c → Within most d → Within most (floor_div (a +ℤ b +ℤ c +ℤ d) 4)
 quarter_size most a b c d ha hb hc hd =
     let two = within_add most most a b ha hb in

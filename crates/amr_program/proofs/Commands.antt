@@ -39,21 +39,21 @@ use Rattle.amr_program.specs.declared.refusal.Refusal.TheVariants as refusals
 use Rattle.amr_program.specs.Answer.{AlongRun, MayWant, admitted, answer_of, done_in, ending, first_texts, read_in, script_in, status_of, stop_in}
 use Rattle.amr_program.specs.Lines.{memory_line, refusal_line}
 use Rattle.amr_program.specs.Outcome.{Came, Ended, RunStops, Stopped, Wrote, WrotePart}
-use Rattle.mesh_model.specs.Run.Runs.{AtEachCommand, declared_in, done, first_mesh, mesh_after, mesh_of, stop, text_of, texts}
+use Rattle.mesh_model.specs.Run.Runs.{AtEachCommand, declared_in, done, first_mesh, mesh_after, mesh_after_all, stop, text_of, texts}
 
 -- ---- commands after others
 
-texts_append : (m : Mesh) (xs ys : List Line) → texts m (xs ++ ys) ≡ texts m xs ++ texts (mesh_of m xs) ys
+texts_append : (m : Mesh) (xs ys : List Line) → texts m (xs ++ ys) ≡ texts m xs ++ texts (mesh_after_all m xs) ys
 texts_append m [] ys = refl
-texts_append m (line ∷ xs) ys = ap (λ t. text_of m line.command ++ t) (texts_append (mesh_after m line.command) xs ys) ∙ sym (append_assoc (text_of m line.command) (texts (mesh_after m line.command) xs) (texts (mesh_of (mesh_after m line.command) xs) ys))
+texts_append m (line ∷ xs) ys = ap (λ t. text_of m line.command ++ t) (texts_append (mesh_after m line.command) xs ys) ∙ sym (append_assoc (text_of m line.command) (texts (mesh_after m line.command) xs) (texts (mesh_after_all (mesh_after m line.command) xs) ys))
 
-mesh_append : (m : Mesh) (xs ys : List Line) → mesh_of m (xs ++ ys) ≡ mesh_of (mesh_of m xs) ys
+mesh_append : (m : Mesh) (xs ys : List Line) → mesh_after_all m (xs ++ ys) ≡ mesh_after_all (mesh_after_all m xs) ys
 mesh_append m [] ys = refl
 mesh_append m (line ∷ xs) ys = mesh_append (mesh_after m line.command) xs ys
 
 -- a run that has done the first i commands: the mesh is the one after them, and it goes on with the others
 pub record Progress (m : Mesh) (lines : List Line) (i : ℕ) (now : Mesh) : Type 0 where
-  pub mesh : now ≡ mesh_of m (take i lines)
+  pub mesh : now ≡ mesh_after_all m (take i lines)
   pub done_so_far : done m lines ≡ take i lines ++ done now (drop i lines)
   pub stops_later : stop m lines ≡ stop now (drop i lines)
 
@@ -86,7 +86,7 @@ goes_on m now after lines i d h so_far none made =
     let more : take (i + 1) lines ≡ take i lines ++ line ∷ [] = take-suc_of lines i d h in
     let here = done_by now line rest none in
     record {
-      mesh = made ∙ ap (λ x. mesh_after x line.command) so_far.mesh ∙ sym (mesh_append m (take i lines) (line ∷ [])) ∙ ap (mesh_of m) (sym more);
+      mesh = made ∙ ap (λ x. mesh_after x line.command) so_far.mesh ∙ sym (mesh_append m (take i lines) (line ∷ [])) ∙ ap (mesh_after_all m) (sym more);
       done_so_far = so_far.done_so_far ∙ ap (λ ls. take i lines ++ done now ls) (left_from lines i d h) ∙ ap (λ ls. take i lines ++ ls) (here.0 ∙ ap (λ x. line ∷ done x rest) (sym made)) ∙ sym (append_assoc (take i lines) (line ∷ []) (done after rest)) ∙ ap (λ ls. ls ++ done after rest) (sym more);
       stops_later = so_far.stops_later ∙ ap (stop now) (left_from lines i d h) ∙ here.1 ∙ ap (λ x. stop x rest) (sym made);
     }
@@ -113,7 +113,7 @@ more_taken m now lines i d a b c h so_far before here =
     let next : i + 1 ≡ suc i = omega arith in
     let texts_next : texts m (take i lines) ++ text_of now line.command ≡ texts m (take (i + 1) lines) =
     ap (λ x. texts m (take i lines) ++ text_of x line.command) so_far.mesh
-    ∙ ap (λ t. texts m (take i lines) ++ t) (sym (append-nil (text_of (mesh_of m (take i lines)) line.command)))
+    ∙ ap (λ t. texts m (take i lines) ++ t) (sym (append-nil (text_of (mesh_after_all m (take i lines)) line.command)))
     ∙ sym (texts_append m (take i lines) (line ∷ []))
     ∙ ap (texts m) (sym (ap (λ k. take k lines) next ∙ take-suc lines i d h)) in
     subst (λ t. Takes a t c) texts_next (takes_more a b c (texts m (take i lines)) (text_of now line.command) before here)

@@ -3,5 +3,4 @@ pub mod Printed
 pub mod Numbered
 pub mod Reported
 pub mod Views
-pub mod Summed
 pub mod Refining

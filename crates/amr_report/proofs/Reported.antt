@@ -5,41 +5,23 @@ use Rattle.std.specs.Fmt.{signed_decimal}
 use Rattle.std.specs.Prelude.{codes, decimal, map}
 use Rattle.amr_num.specs.declared.Axis.TheVariants.{X, Y, Z}
 use Rattle.amr_num.specs.declared.BlockAt.{BlockAt}
-use Rattle.block_tree.specs.declared.tree.NodeKind.{NodeKind}
-use Rattle.block_tree.specs.declared.tree.NodeKind.TheVariants.{Leaf, AboveLeaf, Inner}
+use Rattle.mesh_model.specs.declared.tree.NodeKind.{NodeKind}
+use Rattle.mesh_model.specs.declared.tree.NodeKind.TheVariants.{Leaf, AboveLeaf, Inner}
 use Rattle.block_tree.specs.declared.tree.Tree.{Tree}
 use Rattle.block_tree.specs.GridOf.{grid_of}
-use Rattle.block_tree.specs.Kinds.{kind_of}
 use Rattle.block_tree.specs.Numbered.{IsNumberOf, block_at, block_in}
 use Rattle.block_tree.proofs.Facts.{known}
 use Rattle.block_tree.proofs.Flags.{same_says, same_shows}
 use Rattle.block_tree.proofs.Members.{in_at}
 use Rattle.mesh_model.proofs.TreeLemmas.Nodes.{nodes_sorted}
 use Rattle.mesh_model.specs.Tree.Order.{IsIn, Sorted, key, nodes}
-use Rattle.mesh_model.specs.Tree.Kinds.{Grid, is_leaf_block}
+use Rattle.mesh_model.specs.Tree.Kinds.{kind_of, Grid, is_leaf_block}
 use Rattle.mesh_model.specs.Geometry.Blocks.{children, parent_block, is_same_block}
 use Rattle.std.specs.List.{list_any}
 use Rattle.mesh_model.specs.Tree.Reported.{all_across, number_of, parent_reported, reported, place_in, type_of}
 use Rattle.mesh_model.proofs.TreeLemmas.Tests.{refuted}
 use Rattle.amr_report.specs.Nodes.{line_of, node_begin, with_across, with_kind}
 use Rattle.amr_report.proofs.Joined.{join_words}
-
--- ---- types
-
-abbrev pub type_code : NodeKind → ℕ
-type_code Leaf = 1
-type_code AboveLeaf = 2
-type_code Inner = 3
-
-pub kind_code : (g : Grid) (b : BlockAt) → type_code (kind_of g b) ≡ type_of g b
-unfolding kind_of
-kind_code g b = elim (cases_Bool (is_leaf_block g b)) [
-  | inl t ↦ rw t refl
-  | inr f ↦ rw f (elim (cases_Bool (list_any (is_leaf_block g) (children b))) [
-    | inl t ↦ rw t refl
-    | inr h ↦ rw h refl
-  ])
-]
 
 -- ---- numbers
 

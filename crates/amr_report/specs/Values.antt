@@ -13,7 +13,7 @@ use Rattle.mesh_model.specs.Fields.GuardValues.{cell_guard, edge_guard, face_gua
 use Rattle.mesh_model.specs.Tree.Kinds.{Grid, is_leaf_block}
 use Rattle.mesh_model.specs.Fields.Plain.{Mesh}
 use Rattle.mesh_model.specs.Geometry.Places.{guard_index, in_block}
-use Rattle.mesh_model.specs.Geometry.Canonical.{named_on}
+use Rattle.mesh_model.specs.Geometry.Canonical.{canonical_edge, canonical_face}
 use Rattle.mesh_model.specs.Fields.Views.{edge_view, face_view}
 use Rattle.amr_report.specs.Arrays.{array_on, places_along}
 
@@ -28,9 +28,9 @@ pub record IsPlace (n guards : ℕ) (var : Var) (i j k : ℕ) : Type 0 where
 -- what a mesh has at the place (i, j, k) of a leaf's array for an axis: the content of a cell, or the view of a face or of an edge
 abbrev pub interior_value : Mesh → Group → Axis → BlockAt → ℕ → ℕ → ℕ → ℤ
 interior_value m (Cell v) a b i j k = m.cells v (in_block m.grid.shape.n b i j k)
-interior_value m Face a b i j k = face_view m.grid m.faces (face_of a (named_on m.grid.shape a (in_block m.grid.shape.n b i j k)))
+interior_value m Face a b i j k = face_view m.grid m.faces (canonical_face m.grid.shape (face_of a (in_block m.grid.shape.n b i j k)))
 interior_value m Edge a b i j k =
-    edge_view m.grid m.edges (edge_of a (named_on m.grid.shape (next a) (named_on m.grid.shape (next (next a)) (in_block m.grid.shape.n b i j k))))
+    edge_view m.grid m.edges (canonical_edge m.grid.shape (edge_of a (in_block m.grid.shape.n b i j k)))
 
 -- at each interior place of the group's arrays, on each leaf, there is a number
 pub record HasInterior (is_there : Var → ℕ → ℤ → ℤ → ℤ → Type 0) (g : Grid) (group : Group) : Type 0 where

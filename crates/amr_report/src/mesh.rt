@@ -22,7 +22,7 @@ fn size_line(tree: &Tree) -> Line
     line.push_word("nodes");
     line.push_number(tree.len());
     line.push_word("leaves");
-    line.push_number(tree.leaves());
+    line.push_number(tree.leaf_count());
     line.end();
     line
 }

@@ -22,7 +22,7 @@ fn blocks_along(shape: &Shape, axis: Axis, level: u32) -> u32
 
 /// A block's coordinate on an axis.
 fn place(axis: Axis, b: BlockAt) -> u32
-    ensures { result ≡ touch.place axis b }
+    ensures { result ≡ touch.block_on axis b }
 {
     match axis {
         Axis::X => b.x,

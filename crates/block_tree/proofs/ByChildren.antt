@@ -3,12 +3,11 @@ use Rattle.std.proofs.Common.{◌≡◌, ℕ, ◌<◌, true, false, Option, Some
 use Rattle.std.specs.List.{list_any}
 use Rattle.amr_num.specs.declared.BlockAt.{BlockAt}
 use Rattle.mesh_model.specs.Geometry.Blocks.{child_block, children}
-use Rattle.mesh_model.specs.Tree.Kinds.{Grid, is_leaf_block}
+use Rattle.mesh_model.specs.Tree.Kinds.{kind_of, Grid, is_leaf_block}
 use Rattle.mesh_model.proofs.TreeLemmas.Closure.{in_children, from_children}
 use Rattle.mesh_model.proofs.TreeLemmas.Tests.{refuted, found, there}
 use Rattle.block_tree.specs.Numbered.{IsNumberOf}
-use Rattle.block_tree.specs.Kinds.{kind_of}
-use Rattle.block_tree.specs.declared.tree.NodeKind.TheVariants.{Leaf, AboveLeaf, Inner}
+use Rattle.mesh_model.specs.declared.tree.NodeKind.TheVariants.{Leaf, AboveLeaf, Inner}
 
 module _ (g : Grid) (b : BlockAt) where
   pub is_low : is_leaf_block g b ≡ true → Leaf ≡ kind_of g b

@@ -92,13 +92,6 @@ module _ (g : Grid) (valid : Valid g) where
     | inr f ↦ inr (λ i. let leaf = around c i f in none leaf.0 leaf.1 leaf.2)
   ]
 
-  pub leaf_over : (c : CellAt) (l node : ℕ) → l ≤ c.level → is_leaf_block g (over g.shape.n c l) ≡ true → IsNumberOf g (over g.shape.n c l) node → IsLeafOver g c node
-  leaf_over c l node h leaf number = record {
-    there = number.there;
-    leaf = ap (is_leaf_block g) number.block ∙ leaf;
-    over = subst (λ u. LiesIn (block_of g.shape.n c) u) (sym number.block) (over_in g.shape.n c l h);
-  }
-
   -- a cell that lies in a leaf is not split, and lies in the domain
   pub covered_whole : (c : CellAt) (leaf : BlockAt) → IsIn leaf g.leaves → LiesIn (block_of g.shape.n c) leaf → is_split g c ≡ false
   covered_whole c leaf i h = refuted _ (λ t.

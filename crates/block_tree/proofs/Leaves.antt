@@ -7,7 +7,7 @@ use Rattle.mesh_model.specs.Geometry.Blocks.{child_block, parent_block, is_first
 use Rattle.mesh_model.specs.Tree.Order.{IsIn, begun_at, nodes}
 use Rattle.mesh_model.specs.Tree.Kinds.{Grid, lies_in, is_leaf_block, is_split_block}
 use Rattle.mesh_model.specs.Tree.ValidGrid.{Valid}
-use Rattle.mesh_model.proofs.TreeLemmas.Nodes.{node_in, in_node}
+use Rattle.mesh_model.proofs.TreeLemmas.Nodes.{begun_in, node_in, in_node}
 use Rattle.mesh_model.proofs.TreeLemmas.Tests.{refuted, found, there, and_both, in_either}
 use Rattle.mesh_model.proofs.TreeLemmas.Tiling.{both_true, lies_says, lies_shows, lies_trans, lies_refl, same_level, finest, finest_in, child_in, child_of_split, domain_up, leaf_says, leaf_shows, split_says, split_shows}
 use Rattle.mesh_model.proofs.TreeLemmas.Regrown.{is_parent}
@@ -47,22 +47,6 @@ begun_parts zero b = refl
 begun_parts (suc l) b = elim (cases_Bool (is_first_child b)) [
   | inl t ↦ begun_first l b t ∙ ap (λ u. u ++ b ∷ []) (sym (above_first l b t))
   | inr f ↦ begun_other l b f ∙ ap (λ u. u ++ b ∷ []) (sym (above_other l b f))
-]
-
-begun_in : (l : ℕ) (c b : BlockAt) → c.level ≡ l → IsIn b (begun_at l c) → LiesIn c b
-unfolding begun_at
-begun_in zero c b e (inl same) = subst (λ u. LiesIn c u) same (lies_refl c)
-begun_in zero c b e (inr none) = absurd none
-begun_in (suc l) c b e i = elim (cases_Bool (is_first_child c)) [
-  | inl t ↦ elim (in_either b (begun_at l (parent_block c)) (c ∷ []) (subst (λ u. IsIn b u) (begun_first l c t) i)) [
-    | inl j ↦ lies_trans c (parent_block c) b (child_in c (parent_block c) (is_parent c (omega arith))) (begun_in l (parent_block c) b (omega arith) j)
-    | inr (inl same) ↦ subst (λ u. LiesIn c u) same (lies_refl c)
-    | inr (inr none) ↦ absurd none
-  ]
-  | inr f ↦ elim (subst (λ u. IsIn b u) (begun_other l c f) i) [
-    | inl same ↦ subst (λ u. LiesIn c u) same (lies_refl c)
-    | inr none ↦ absurd none
-  ]
 ]
 
 pub above_in : (l : ℕ) (c b : BlockAt) → c.level ≡ l → IsIn b (begun_above l c) → LiesIn c b × (b.level < c.level)
@@ -145,9 +129,6 @@ module _ (g : Grid) (valid : Valid g) where
             let leaf = leaf_shows g b (subst (λ u. IsIn u g.leaves) same under.1) in
             cc
       ]
-
-  pub split_leaf : (b : BlockAt) → is_split_block g b ≡ true → is_leaf_block g b ≡ false
-  split_leaf b t = let under = split_says g b t in leaf_whole under.0 b under.1 under.3 under.2
 
   -- the children of a node that is no leaf are nodes, and so is the parent of a node
   pub child_node : (b : BlockAt) (q : ℕ) → is_split_block g b ≡ true → IsIn (child_block b q) (nodes g.leaves)

@@ -17,7 +17,7 @@ use Rattle.mesh_model.proofs.TreeLemmas.Ruled.{own_octant}
 use Rattle.mesh_model.proofs.TreeLemmas.Sorting.{regrown_sorted}
 use Rattle.mesh_model.proofs.TreeLemmas.Tests.{refuted, and_left, and_right, and_both, all_three}
 use Rattle.block_tree.specs.Growing.{MayRegrow}
-use Rattle.block_tree.specs.Places.{is_taken_back, in_place}
+use Rattle.block_tree.specs.Places.{is_taken_back, nodes_for}
 use Rattle.block_tree.proofs.Leaves.{begun_above, above_first, above_other, begun_first, begun_other, begun_parts, above_in, leaf_alone}
 
 -- ---- lists
@@ -86,7 +86,7 @@ children_begin b =
 module _ (refine merge : BlockAt → Bool) where
   -- what stands in the place of a node
   abbrev pub placed : BlockAt → List BlockAt
-  placed b = in_place b (refine b) (is_taken_back merge b)
+  placed b = nodes_for b (refine b) (is_taken_back merge b)
 
   taken_same : (b : BlockAt) → takes_back refine merge b ≡ is_taken_back merge b
   unfolding takes_back is_taken_back
@@ -153,7 +153,7 @@ module _ (refine merge : BlockAt → Bool) where
         ∙ flat_map-append placed (begun_above b.level b) (b ∷ [])
         ∙ ap₂ (λ u w. u ++ w) (above_kept b i) (append-nil (placed b))
 
-    leaf_places : (b : BlockAt) → IsIn b g.leaves → flat_map placed (begins b) ≡ flat_map begins (regrid.in_place refine merge b)
+    leaf_places : (b : BlockAt) → IsIn b g.leaves → flat_map placed (begins b) ≡ flat_map begins (regrid.leaves_for refine merge b)
     leaf_places b i = begins_become b i ∙ elim (cases_Bool (is_taken_back merge b)) [
       | inl t ↦
           let stays = (taken_leaf b t).1 in
@@ -186,7 +186,7 @@ module _ (refine merge : BlockAt → Bool) where
     -- the new nodes
     pub new_nodes : flat_map placed (nodes g.leaves) ≡ nodes (regrown g refine merge).leaves
     unfolding nodes
-    new_nodes = flat_flat placed begins (regrid.in_place refine merge) g.leaves leaf_places
+    new_nodes = flat_flat placed begins (regrid.leaves_for refine merge) g.leaves leaf_places
 
     pub new_valid : Valid (regrown g refine merge)
     new_valid = record { shape = valid.shape; tiles = regrown_tiles refine merge g fit valid.tiles; rule = may.rule }

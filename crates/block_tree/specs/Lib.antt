@@ -1,7 +1,6 @@
 pub mod Listed
 pub mod Numbered
 pub mod GridOf
-pub mod Kinds
 pub mod Growing
 pub mod Marked
 pub mod Searching

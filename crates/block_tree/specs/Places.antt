@@ -8,5 +8,5 @@ unfoldable pub is_taken_back : (BlockAt → Bool) → BlockAt → Bool
 is_taken_back merge b = nat_lt 0 b.level && merge (parent_block b)
 
 -- a refined leaf is followed by its children, and the children of a merged parent go
-abbrev pub in_place : BlockAt → Bool → Bool → List BlockAt
-in_place b refine goes = if goes then [] else (if refine then b ∷ children b else b ∷ [])
+abbrev pub nodes_for : BlockAt → Bool → Bool → List BlockAt
+nodes_for b refine goes = if goes then [] else (if refine then b ∷ children b else b ∷ [])

@@ -58,7 +58,7 @@ pub fn push_place(
 ) -> Result<(), OutOfMemory>
     requires level { refine ≡ true → b.level < 10 }
     requires place { HasKey b }
-    ensures { OnOk result (nodes.new.items ≡ nodes.old.items ++ places.in_place b refine goes) }
+    ensures { OnOk result (nodes.new.items ≡ nodes.old.items ++ places.nodes_for b refine goes) }
 {
     if goes {
         return Ok(());

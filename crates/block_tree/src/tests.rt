@@ -60,7 +60,7 @@ fn too_many_nodes_are_counted(rt: HostRuntime) {
     let down = flags(alloc, false, 512).expect(&rt, "memory");
     let fine = roots.regrown(alloc, &up, &down).expect(&rt, "memory");
     assert_eq!(rt; fine.len(), 4608);
-    assert_eq!(rt; fine.leaves(), 4096);
+    assert_eq!(rt; fine.leaf_count(), 4096);
     let down = flags(alloc, false, 4608).expect(&rt, "memory");
     let few = first_leaves(alloc, &fine, 448).expect(&rt, "memory");
     let tree = fine.regrown(alloc, &few, &down).expect(&rt, "memory");
@@ -123,13 +123,13 @@ fn nodes_are_found(rt: HostRuntime) {
         .regrown(alloc, &[true, false], &[false, false])
         .expect(&rt, "memory");
     assert_eq!(rt; tree.len(), 10);
-    assert_eq!(rt; tree.leaves(), 9);
+    assert_eq!(rt; tree.leaf_count(), 9);
     assert!(rt; !tree.is_leaf(0));
     let up = [
         true, false, false, false, false, false, false, false, false, false,
     ];
     let merged = tree.regrown(alloc, &[false; 10], &up).expect(&rt, "memory");
-    assert_eq!(rt; (merged.len(), merged.leaves()), (2, 2));
+    assert_eq!(rt; (merged.len(), merged.leaf_count()), (2, 2));
     for (node, level, x, y, z, parent, kind) in ROWS {
         let b = BlockAt { level, x, y, z };
         if node < tree.len() {

@@ -6,16 +6,9 @@ use crate::blocks::{block_over, child_block, is_in_domain, most_nodes, parent_bl
 use crate::places::{push_place, root_blocks};
 use crate::search::place_of;
 use amr_num::{BlockAt, CellAt, OutOfMemory};
+pub use mesh_model::NodeKind;
 use mesh_model::Shape;
 use std::alloc::Global;
-
-/// What a node is: a leaf, a parent of at least one leaf, or any other node.
-#[derive(Clone, Copy, Debug, PartialEq, Eq)]
-pub enum NodeKind {
-    Leaf,
-    AboveLeaf,
-    Inner,
-}
 
 /// Why there is no tree after refining and merging.
 #[derive(Clone, Copy, Debug, PartialEq, Eq)]
@@ -40,7 +33,7 @@ impl Tree {
     ghost use Rattle.block_tree.specs.GridOf.{grid_of};
     ghost use Rattle.block_tree.specs.Growing.{IsGrowStop, MayRegrow, grid_after};
     ghost use Rattle.block_tree.specs.Places.{is_taken_back};
-    ghost use Rattle.block_tree.specs.Kinds.{kind_of};
+    ghost use Rattle.mesh_model.specs.Tree.Kinds.{kind_of};
     ghost use Rattle.block_tree.specs.Numbered.{IsLeafOver, IsNode, IsNumberOf, block_at, blocks_of, flag_in};
     ghost use Rattle.mesh_model.specs.Geometry.Blocks as model;
     ghost use Rattle.mesh_model.specs.Geometry.Coordinates.{Inside};
@@ -80,7 +73,7 @@ impl Tree {
     }
 
     /// How many leaves there are.
-    pub fn leaves(&self) -> u32
+    pub fn leaf_count(&self) -> u32
         ensures { result ≡ length (grid_of self.now).leaves }
     {
         let mut count = 0;

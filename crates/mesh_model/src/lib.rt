@@ -1,13 +1,14 @@
 //! The plain mesh: its definitions and their laws, and the calls on coordinates.
 //!
-//! Its rooms, each of which names only those before it: geometry, the tree (definitions alone), fields, the
-//! language, and the run.
+//! Its rooms, each of which names only those before it: geometry, the tree, fields, the language, and the
+//! run.
 #![tactic(auto)]
 
 pub mod fields;
 pub mod geometry;
 pub mod language;
 pub mod run;
+pub mod tree;
 
 pub use fields::spot::{RangeStop, Spot};
 pub use fields::values::{BlockValues, Group, Var};

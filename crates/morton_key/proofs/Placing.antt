@@ -8,7 +8,7 @@ use Rattle.amr_num.specs.declared.BlockAt.{BlockAt}
 use Rattle.amr_num.specs.MortonKey.{interleave, low_end, morton, key}
 use Rattle.mesh_model.specs.Geometry.Blocks.{child_block, LiesIn}
 use Rattle.mesh_model.proofs.TreeLemmas.Morton.{shifted, digits}
-use Rattle.mesh_model.proofs.TreeLemmas.Sorting.{span, span_pos, morton_child}
+use Rattle.mesh_model.proofs.TreeLemmas.Sorting.{span, span_pos, morton_child, next_stretch}
 use Rattle.morton_key.specs.Bits.{respaced}
 use Rattle.morton_key.specs.Keyed.{HasKey}
 use Rattle.morton_key.proofs.Interleaving.{gather_x, gather_y, gather_z}
@@ -148,25 +148,6 @@ outer_first b c hc h other =
 pub parent_first : (b : BlockAt) (q : ℕ) → b.level < 10 → q < 8 → key b < key (child_block b q)
 unfolding key
 parent_first b q h lt = let at = morton_child b q h lt in omega arith
-
-one_more : (n s : ℕ) → suc n * s ≡ n * s + s
-one_more n s = grind arith
-
--- each child's stretch ends where the next child's begins, or before
-next_stretch : (b : BlockAt) (q r : ℕ) → b.level < 10 → q < r → r < 8 → morton (child_block b q) + span (suc b.level) ≤ morton (child_block b r)
-next_stretch b q r h lt top =
-    let one = morton_child b q h (omega arith) in
-    let two = morton_child b r h top in
-    let row = one_more q (span (suc b.level)) in
-    let le = mul-le-mul_right {m = suc q} {n = r} (span (suc b.level)) lt in
-    omega arith
-
-pub by_octant : (b : BlockAt) (q r : ℕ) → b.level < 10 → q < r → r < 8 → key (child_block b q) < key (child_block b r)
-unfolding key
-by_octant b q r h lt top =
-    let next = next_stretch b q r h lt top in
-    let wide = span_pos (suc b.level) in
-    omega arith
 
 pub keep_blocks : (b c d : BlockAt) (q r : ℕ) → HasKey c → HasKey d → q < r → r < 8 → LiesIn c (child_block b q) → LiesIn d (child_block b r) → key c < key d
 unfolding key

@@ -54,7 +54,7 @@ fn a_refined_leaf_pulls_in_coarser_ones(rt: HostRuntime) -> Result<(), Fail> {
     for (refined, nodes, leaves) in [(block(0, 0, 0, 0), 72, 71), (block(1, 0, 0, 0), 136, 127)] {
         let before = tree.len();
         tree = regrown(rt.alloc(), &tree, &[refined], before).ok_or("no tree")?;
-        assert_eq!(rt; (tree.len(), tree.leaves()), (nodes, leaves));
+        assert_eq!(rt; (tree.len(), tree.leaf_count()), (nodes, leaves));
     }
     for node in 0..tree.len() {
         let at = tree.at(node);
@@ -77,7 +77,7 @@ fn a_refined_leaf_holds_its_neighbours(rt: HostRuntime) -> Result<(), Fail> {
     ] {
         let from = if merges { 0 } else { tree.len() };
         tree = regrown(rt.alloc(), &tree, refined, from).ok_or("no tree")?;
-        assert_eq!(rt; (tree.len(), tree.leaves()), (nodes, leaves));
+        assert_eq!(rt; (tree.len(), tree.leaf_count()), (nodes, leaves));
     }
     Ok(())
 }

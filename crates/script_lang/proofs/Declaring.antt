@@ -11,8 +11,12 @@ use Rattle.mesh_model.specs.declared.language.script.Declaration.TheVariants as 
 use Rattle.mesh_model.specs.declared.language.script.Reading.{Reading}
 use Rattle.mesh_model.specs.declared.language.script.Reason.{Reason}
 use Rattle.mesh_model.specs.declared.language.script.Reason.TheVariants.{OutOfRange, Unpaired, BadName, NameTaken, TooMany}
-use Rattle.mesh_model.specs.Language.Commands.{IsAcceptedShape, AreNames, AreDifferent, InLimits}
-use Rattle.mesh_model.specs.Geometry.Coordinates.{is_periodic_kind}
+use Rattle.mesh_model.specs.Language.Commands.{AreNames, AreDifferent, InLimits}
+use Rattle.mesh_model.specs.Geometry.Limits.{IsShape}
+use Rattle.amr_num.specs.declared.Axis.{Axis}
+use Rattle.amr_num.specs.declared.Axis.TheVariants.{X, Y, Z}
+use Rattle.amr_num.specs.declared.SideKind.{SideKind}
+use Rattle.mesh_model.specs.Geometry.Coordinates.{is_periodic_kind, side_index, side_kind}
 use Rattle.mesh_model.specs.Language.Declarations.{domain, cells, bounds, levels, cellvar, facevar, edgevar, are_paired}
 use Rattle.mesh_model.specs.Language.Forms.{count, one_of, level, side, cell_named, is_named, is_taken, new_name, ◌>>=◌}
 use Rattle.mesh_model.specs.Language.Grammar.{declares}
@@ -23,13 +27,21 @@ use Rattle.script_lang.proofs.Steps.{bound, passed, both, same_value}
 
 -- SHAPES
 
-domain_within : (s t : Shape) (ws : List (List ℕ)) → IsAcceptedShape s → domain s ws ≡ Ok t → IsAcceptedShape t
+domain_within : (s t : Shape) (ws : List (List ℕ)) → IsShape s → domain s ws ≡ Ok t → IsShape t
 unfolding domain
 domain_within s t ws old h =
     let x = bound (count 1 8 (word ws 1)) _ t h in
     let y = bound (count 1 8 (word ws 2)) _ t x.2 in
     let z = bound (count 1 8 (word ws 3)) _ t y.2 in
-    subst IsAcceptedShape (same_value (record s { rx = x.0; ry = y.0; rz = z.0 }) t z.2) (record { rx = count_range 1 8 (word ws 1) x.0 x.1; ry = count_range 1 8 (word ws 2) y.0 y.1; rz = count_range 1 8 (word ws 3) z.0 z.1; n = old.n; g = old.g; levels = old.levels; sides = old.sides })
+    subst IsShape (same_value (record s { rx = x.0; ry = y.0; rz = z.0 }) t z.2) (record {
+      rx = (count_range 1 8 (word ws 1) x.0 x.1).0;
+      ry = (count_range 1 8 (word ws 2) y.0 y.1).0;
+      rz = (count_range 1 8 (word ws 3) z.0 z.1).0;
+      few_x = (count_range 1 8 (word ws 1) x.0 x.1).1;
+      few_y = (count_range 1 8 (word ws 2) y.0 y.1).1;
+      few_z = (count_range 1 8 (word ws 3) z.0 z.1).1;
+      cells = old.cells; guards = old.guards; min = old.min; max = old.max; six = old.six; both = old.both;
+    })
 
 four_or_eight : (n : ℕ) → list_any (λ m. m == n) (4 ∷ 8 ∷ []) ≡ true → (n ≡ 4) ⊎ (n ≡ 8)
 four_or_eight n h = grind (arith, nat_tests)
@@ -37,14 +49,14 @@ four_or_eight n h = grind (arith, nat_tests)
 one_two_four : (n : ℕ) → list_any (λ m. m == n) (1 ∷ 2 ∷ 4 ∷ []) ≡ true → (n ≡ 1) ⊎ ((n ≡ 2) ⊎ (n ≡ 4))
 one_two_four n h = grind (arith, nat_tests)
 
-cells_within : (s t : Shape) (ws : List (List ℕ)) → IsAcceptedShape s → cells s ws ≡ Ok t → IsAcceptedShape t
+cells_within : (s t : Shape) (ws : List (List ℕ)) → IsShape s → cells s ws ≡ Ok t → IsShape t
 unfolding cells
 cells_within s t ws old h =
     let x = bound (one_of (4 ∷ 8 ∷ []) (word ws 1)) _ t h in
     let y = bound (one_of (1 ∷ 2 ∷ 4 ∷ []) (word ws 2)) _ t x.2 in
     let four : (x.0 ≡ 4) ⊎ (x.0 ≡ 8) = four_or_eight x.0 (one_says (4 ∷ 8 ∷ []) (word ws 1) x.0 x.1) in
     let guard : (y.0 ≡ 1) ⊎ ((y.0 ≡ 2) ⊎ (y.0 ≡ 4)) = one_two_four y.0 (one_says (1 ∷ 2 ∷ 4 ∷ []) (word ws 2) y.0 y.1) in
-    subst IsAcceptedShape (same_value (record s { n = x.0; g = y.0 }) t y.2) (record { rx = old.rx; ry = old.ry; rz = old.rz; n = four; g = guard; levels = old.levels; sides = old.sides })
+    subst IsShape (same_value (record s { n = x.0; g = y.0 }) t y.2) (record { rx = old.rx; ry = old.ry; rz = old.rz; few_x = old.few_x; few_y = old.few_y; few_z = old.few_z; cells = four; guards = guard; min = old.min; max = old.max; six = old.six; both = old.both })
 
 same_sides : (a b : Bool) → (if a then b else not b) ≡ true → a ≡ b
 same_sides true true h = refl
@@ -52,7 +64,13 @@ same_sides true false h = absurd (cc)
 same_sides false true h = absurd (cc)
 same_sides false false h = refl
 
-bounds_within : (s t : Shape) (ws : List (List ℕ)) → IsAcceptedShape s → bounds s ws ≡ Ok t → IsAcceptedShape t
+by_axis : (sides : List SideKind) → is_periodic_kind (side_kind sides 0) ≡ is_periodic_kind (side_kind sides 1) → is_periodic_kind (side_kind sides 2) ≡ is_periodic_kind (side_kind sides 3) →
+    is_periodic_kind (side_kind sides 4) ≡ is_periodic_kind (side_kind sides 5) → (a : Axis) → is_periodic_kind (side_kind sides (side_index a)) ≡ is_periodic_kind (side_kind sides (suc (side_index a)))
+by_axis sides x y z X = x
+by_axis sides x y z Y = y
+by_axis sides x y z Z = z
+
+bounds_within : (s t : Shape) (ws : List (List ℕ)) → IsShape s → bounds s ws ≡ Ok t → IsShape t
 unfolding bounds
 bounds_within s t ws old h =
     let a = bound (side (word ws 1)) _ t h in
@@ -64,18 +82,25 @@ bounds_within s t ws old h =
     let k = passed _ Unpaired (record s { sides = a.0 ∷ b.0 ∷ c.0 ∷ d.0 ∷ e.0 ∷ f.0 ∷ [] }) t f.2 in
     let xy = both (are_paired a.0 b.0 && are_paired c.0 d.0) (are_paired e.0 f.0) k.0 in
     let x = both (are_paired a.0 b.0) (are_paired c.0 d.0) xy.0 in
-    subst IsAcceptedShape k.1 (record { rx = old.rx; ry = old.ry; rz = old.rz; n = old.n; g = old.g; levels = old.levels; sides = record { six = refl; x = same_sides (is_periodic_kind a.0) (is_periodic_kind b.0) x.0; y = same_sides (is_periodic_kind c.0) (is_periodic_kind d.0) x.1; z = same_sides (is_periodic_kind e.0) (is_periodic_kind f.0) xy.1 } })
+    subst IsShape k.1 (record {
+      rx = old.rx; ry = old.ry; rz = old.rz; few_x = old.few_x; few_y = old.few_y; few_z = old.few_z;
+      cells = old.cells; guards = old.guards; min = old.min; max = old.max; six = refl;
+      both = by_axis (a.0 ∷ b.0 ∷ c.0 ∷ d.0 ∷ e.0 ∷ f.0 ∷ [])
+        (same_sides (is_periodic_kind a.0) (is_periodic_kind b.0) x.0)
+        (same_sides (is_periodic_kind c.0) (is_periodic_kind d.0) x.1)
+        (same_sides (is_periodic_kind e.0) (is_periodic_kind f.0) xy.1);
+    })
 
 below : (a b : ℕ) → nat_le a b ≡ true → a ≤ b
 below a b h = grind (arith, nat_tests)
 
-levels_within : (s t : Shape) (ws : List (List ℕ)) → IsAcceptedShape s → levels s ws ≡ Ok t → IsAcceptedShape t
+levels_within : (s t : Shape) (ws : List (List ℕ)) → IsShape s → levels s ws ≡ Ok t → IsShape t
 unfolding levels
 levels_within s t ws old h =
     let a = bound (level (word ws 1)) _ t h in
     let b = bound (level (word ws 2)) _ t a.2 in
     let k = passed _ OutOfRange (record s { min = a.0; max = b.0 }) t b.2 in
-    subst IsAcceptedShape k.1 (record { rx = old.rx; ry = old.ry; rz = old.rz; n = old.n; g = old.g; levels = (below a.0 b.0 k.0, (count_range 0 10 (word ws 2) b.0 b.1).1); sides = old.sides })
+    subst IsShape k.1 (record { rx = old.rx; ry = old.ry; rz = old.rz; few_x = old.few_x; few_y = old.few_y; few_z = old.few_z; cells = old.cells; guards = old.guards; min = below a.0 b.0 k.0; max = (count_range 0 10 (word ws 2) b.0 b.1).1; six = old.six; both = old.both })
 
 -- NAMES
 
@@ -190,7 +215,7 @@ edgevar_within names more ws old apart h =
 
 -- DECLARATIONS
 
-shape_within : (r after : Reading) (read : Result Shape Reason) → InLimits r.declared → ((t : Shape) → read ≡ Ok t → IsAcceptedShape t) → (read >>= (λ t. Ok (record r { declared = record { shape = t; names = r.declared.names } }))) ≡ Ok after → InLimits after.declared
+shape_within : (r after : Reading) (read : Result Shape Reason) → InLimits r.declared → ((t : Shape) → read ≡ Ok t → IsShape t) → (read >>= (λ t. Ok (record r { declared = record { shape = t; names = r.declared.names } }))) ≡ Ok after → InLimits after.declared
 shape_within r after (Ok t) old within h = subst (λ (u : Reading). InLimits u.declared) (same_value _ after h) (record { shape = within t refl; names = old.names; different = old.different })
 shape_within r after (Err e) old within h = absurd (cc)
 

@@ -12,21 +12,6 @@ both : (a b : Bool) → (a && b) ≡ true → (a ≡ true) × (b ≡ true)
 both true b h = (refl, h)
 both false b h = absurd (cc)
 
--- where all pass, each does
-pub passes_at : (p : ℕ → Bool) (xs : List ℕ) (i d : ℕ) → i < length xs → list_all p xs ≡ true → p (get_or xs i d) ≡ true
-passes_at p [] i d h all = absurd (omega arith)
-passes_at p (x ∷ xs) zero d h all = (both (p x) _ all).0
-passes_at p (x ∷ xs) (suc i) d h all = passes_at p xs i d (omega arith) (both (p x) _ all).1
-
-is_digit_says : (b : ℕ) → is_digit b ≡ true → (48 ≤ b) × (b ≤ 57)
-is_digit_says b h = (grind (arith, nat_tests), grind (arith, nat_tests))
-
--- each byte of a positive number is a digit
-pub digit_at : (xs : List ℕ) (i d : ℕ) → i < length xs → is_positive xs ≡ true → (48 ≤ get_or xs i d) × (get_or xs i d ≤ 57)
-digit_at [] i d h all = absurd (omega arith)
-digit_at (x ∷ xs) zero d h all = let first : (nat_le 49 x ≡ true) × (nat_le x 57 ≡ true) = both _ _ (both (nat_le 49 x && nat_le x 57) (list_all is_digit xs) all).0 in (grind (arith, nat_tests), grind (arith, nat_tests))
-digit_at (x ∷ xs) (suc i) d h all = is_digit_says _ (passes_at is_digit xs i d (omega arith) (both (nat_le 49 x && nat_le x 57) _ all).1)
-
 name_byte : (b : ℕ) → is_name_byte b ≡ true → b < 128
 name_byte b h = grind (arith, nat_tests)
 

@@ -15,17 +15,17 @@ use Rattle.mesh_model.specs.Fields.RangeWalk.{cell_above, cells_walked, edge_abo
 use Rattle.mesh_model.specs.Fields.Valid.{ValidMesh}
 
 -- what is in range is not found
-not_above : (most : ℕ) (z : ℤ) → Within most z → is_above most z ≡ false
+pub not_above : (most : ℕ) (z : ℤ) → Within most z → is_above most z ≡ false
 not_above most z h = elim (cases_Bool (is_above most z)) [
   | inl t ↦ absurd (let lt = ltb-true most (unsigned_abs z) t in omega (arith, h, lt))
   | inr f ↦ f
 ]
 
-none_found : {A : Type 0} (p : A → Bool) (xs : List A) → ((x : A) → p x ≡ false) → find p xs ≡ None
+pub none_found : {A : Type 0} (p : A → Bool) (xs : List A) → ((x : A) → p x ≡ false) → find p xs ≡ None
 none_found p [] h = refl
 none_found p (x ∷ xs) h = rw (h x) (none_found p xs h)
 
-map_none : {A B : Type 0} (f : A → B) (o : Option A) → o ≡ None → option_map f o ≡ None
+pub map_none : {A B : Type 0} (f : A → B) (o : Option A) → o ≡ None → option_map f o ≡ None
 map_none f o h = rw h refl
 
 or_nothing : {A : Type 0} (p q : Option A) → q ≡ None → option_or p q ≡ p

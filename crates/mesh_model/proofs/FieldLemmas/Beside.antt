@@ -7,11 +7,12 @@ use Rattle.std.specs.Prelude.{option_map}
 use Rattle.amr_num.specs.declared.Axis.{Axis}
 use Rattle.amr_num.specs.declared.Axis.TheVariants.{X, Y, Z}
 use Rattle.amr_num.specs.declared.CellAt.{CellAt}
+use Rattle.mesh_model.proofs.GeometryLemmas.OnAxes.{with_own}
 use Rattle.mesh_model.proofs.GeometryLemmas.ShapeLimits.{cells_some}
 use Rattle.mesh_model.specs.declared.geometry.Shape.{Shape}
 use Rattle.mesh_model.specs.Geometry.Coordinates.{sub_cell, sub_face, face_of, after, below, above, wrapped, moved, with, on, extent, roots, is_periodic, low_cell, high_cell, Inside}
 use Rattle.mesh_model.specs.Tree.Kinds.{Grid, block_of, is_split, holds, is_split_face}
-use Rattle.mesh_model.specs.Geometry.Touch.{low_end, high_end, place}
+use Rattle.mesh_model.specs.Geometry.Touch.{low_end, high_end, block_on}
 use Rattle.mesh_model.specs.Tree.ValidGrid.{Valid}
 use Rattle.mesh_model.specs.Geometry.Blocks.{InDomain}
 use Rattle.mesh_model.proofs.TreeLemmas.Tests.{refuted}
@@ -52,14 +53,14 @@ blocks_meet p r n l u w pos h t =
     let blocks : Meet p (r * 2 ^ l) (u / n) (suc (u / n)) (w / n) (suc (w / n)) = meet_over p (r * 2 ^ l) _ _ _ _ n pos wide in
     subst (λ e. Meet p e (u / n * 2 ^ (10 - l)) (suc (u / n) * 2 ^ (10 - l)) (w / n * 2 ^ (10 - l)) (suc (w / n) * 2 ^ (10 - l))) (whole_turn r l h) (meet_times p (r * 2 ^ l) _ _ _ _ (2 ^ (10 - l)) blocks)
 
-near_on : (s : Shape) (u w : CellAt) → 0 < s.n → u.level ≤ 10 → Near s u w → (a : Axis) → Meet (is_periodic s a) (roots s a * 2 ^ 10) (low_end u.level (place a (block_of s.n u))) (high_end u.level (place a (block_of s.n u))) (low_end u.level (place a (block_of s.n w))) (high_end u.level (place a (block_of s.n w)))
+near_on : (s : Shape) (u w : CellAt) → 0 < s.n → u.level ≤ 10 → Near s u w → (a : Axis) → Meet (is_periodic s a) (roots s a * 2 ^ 10) (low_end u.level (block_on a (block_of s.n u))) (high_end u.level (block_on a (block_of s.n u))) (low_end u.level (block_on a (block_of s.n w))) (high_end u.level (block_on a (block_of s.n w)))
 near_on s u w pos h t X = blocks_meet _ s.rx s.n u.level u.x w.x pos h (t.on X)
 near_on s u w pos h t Y = blocks_meet _ s.ry s.n u.level u.y w.y pos h (t.on Y)
 near_on s u w pos h t Z = blocks_meet _ s.rz s.n u.level u.z w.z pos h (t.on Z)
 
 pub near_touch : (s : Shape) (u w : CellAt) → 0 < s.n → u.level ≤ 10 → Near s u w → Touch s (block_of s.n u) (block_of s.n w)
 near_touch s u w pos h t = record {
-  on = λ a. subst (λ l. Meet (is_periodic s a) (roots s a * 2 ^ 10) (low_end u.level (place a (block_of s.n u))) (high_end u.level (place a (block_of s.n u))) (low_end l (place a (block_of s.n w))) (high_end l (place a (block_of s.n w)))) (sym t.level) (near_on s u w pos h t a);
+  on = λ a. subst (λ l. Meet (is_periodic s a) (roots s a * 2 ^ 10) (low_end u.level (block_on a (block_of s.n u))) (high_end u.level (block_on a (block_of s.n u))) (low_end l (block_on a (block_of s.n w))) (high_end l (block_on a (block_of s.n w)))) (sym t.level) (near_on s u w pos h t a);
 }
 
 block_below : (r n l p : ℕ) → 0 < n → p < r * n * 2 ^ l → p / n < r * 2 ^ l
@@ -173,11 +174,6 @@ high_near : (s : Shape) (a : Axis) (c : CellAt) (r q : ℕ) → Follows (is_peri
 high_near s X c r q h = record { level = refl; on = three _ (doubled s X c.level _ _ (close_back _ _ c.x r _ _ h (omega arith) (omega arith))) (close_same _ _ _ _ (omega arith)) (close_same _ _ _ _ (omega arith)) }
 high_near s Y c r q h = record { level = refl; on = three _ (close_same _ _ _ _ (omega arith)) (doubled s Y c.level _ _ (close_back _ _ c.y r _ _ h (omega arith) (omega arith))) (close_same _ _ _ _ (omega arith)) }
 high_near s Z c r q h = record { level = refl; on = three _ (close_same _ _ _ _ (omega arith)) (close_same _ _ _ _ (omega arith)) (doubled s Z c.level _ _ (close_back _ _ c.z r _ _ h (omega arith) (omega arith))) }
-
-pub with_own : (a : Axis) (c : CellAt) → with a (on a c) c ≡ c
-with_own X c = refl
-with_own Y c = refl
-with_own Z c = refl
 
 pub with_level : (a : Axis) (r : ℕ) (c : CellAt) → (with a r c).level ≡ c.level
 with_level X r c = refl

@@ -4,6 +4,7 @@ use Rattle.std.proofs.Math.Nat.{mul-le-mul_right, mul-le-mul_left, lt-div-mul-ad
 use Rattle.std.proofs.lemmas.Nat.{mul-le}
 use Rattle.std.proofs.lemmas.Int.{ints}
 use Rattle.std.proofs.lemmas.Bool.{cases_Bool, cases_lt, lt-ltb, le-ltb}
+use Rattle.amr_num.proofs.Sizes.{within_add}
 use Rattle.amr_num.specs.declared.BlockAt.{BlockAt}
 use Rattle.amr_num.specs.declared.CellAt.{CellAt}
 use Rattle.amr_num.specs.Numbers.{Within, sum_below}
@@ -22,9 +23,6 @@ use Rattle.mesh_model.proofs.FieldLemmas.CellSums.{down_whole, down_split, view_
 abbrev pub total : ℕ → (ℕ → ℕ) → ℕ
 total zero w = 0
 total (suc k) w = total k w + w k
-
-within_add : (m n : ℕ) (a b : ℤ) → Within m a → Within n b → Within (m + n) (a +ℤ b)
-within_add m n a b p q = omega (arith, ints)
 
 pub wider : (z : ℤ) (m n : ℕ) → Within m z → m ≤ n → Within n z
 wider z m n h le = omega arith

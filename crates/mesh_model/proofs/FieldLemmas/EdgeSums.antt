@@ -7,7 +7,7 @@ use Rattle.amr_num.specs.Numbers.{part, sum_below}
 use Rattle.amr_num.proofs.Parts.{parts_add_up, sum_below_same}
 use Rattle.mesh_model.specs.Geometry.Coordinates.{half_edge, parent_edge, extent, on, next, edge_numbers}
 use Rattle.mesh_model.specs.Tree.Kinds.{Grid, is_leaf, is_split, is_split_edge, is_leaf_edge}
-use Rattle.mesh_model.specs.Fields.Views.{edge_down, rim_view, edge_view_at, edge_view, half_of}
+use Rattle.mesh_model.specs.Fields.Views.{edge_down, outer_edge_view, edge_view_at, edge_view, half_of}
 use Rattle.mesh_model.proofs.FieldLemmas.CellSums.{TreeLike}
 use Rattle.mesh_model.proofs.FieldLemmas.Slots.{round_fails, round_holds, even_positions, half_of_half, parent_of_half}
 
@@ -35,17 +35,17 @@ module _ (g : Grid) (tree : TreeLike g) (wide : (a : Axis) (l : ℕ) → 0 < ext
     down_split d e h = rw (h, edge_down) refl
 
     -- what the first three cases give
-    pub rim_split : (above : EdgeAt → ℤ) (e : EdgeAt) → is_split_edge g e ≡ true → rim_view g v above e ≡ edge_down g v (10 - e.level) e
-    unfolding rim_view
-    rim_split above e h = rw (h, rim_view) refl
+    pub rim_split : (above : EdgeAt → ℤ) (e : EdgeAt) → is_split_edge g e ≡ true → outer_edge_view g v above e ≡ edge_down g v (10 - e.level) e
+    unfolding outer_edge_view
+    rim_split above e h = rw (h, outer_edge_view) refl
 
-    pub rim_leaf : (above : EdgeAt → ℤ) (e : EdgeAt) → is_split_edge g e ≡ false → is_leaf_edge g e ≡ true → rim_view g v above e ≡ v e
-    unfolding rim_view
-    rim_leaf above e n h = rw (n, rim_view) (rw h refl)
+    pub rim_leaf : (above : EdgeAt → ℤ) (e : EdgeAt) → is_split_edge g e ≡ false → is_leaf_edge g e ≡ true → outer_edge_view g v above e ≡ v e
+    unfolding outer_edge_view
+    rim_leaf above e n h = rw (n, outer_edge_view) (rw h refl)
 
-    pub rim_part : (above : EdgeAt → ℤ) (e : EdgeAt) → is_split_edge g e ≡ false → is_leaf_edge g e ≡ false → rim_view g v above e ≡ part (half_of e) (above (parent_edge e)) 2
-    unfolding rim_view
-    rim_part above e n h = rw (n, rim_view) (rw h refl)
+    pub rim_part : (above : EdgeAt → ℤ) (e : EdgeAt) → is_split_edge g e ≡ false → is_leaf_edge g e ≡ false → outer_edge_view g v above e ≡ part (half_of e) (above (parent_edge e)) 2
+    unfolding outer_edge_view
+    rim_part above e n h = rw (n, outer_edge_view) (rw h refl)
 
     at_split : (l : ℕ) (e : EdgeAt) → is_split_edge g e ≡ true → edge_view_at g v l e ≡ edge_down g v (10 - e.level) e
     unfolding edge_view_at
@@ -68,7 +68,7 @@ module _ (g : Grid) (tree : TreeLike g) (wide : (a : Axis) (l : ℕ) → 0 < ext
     view_leaf e n h = at_leaf e.level e n h
 
     -- at even positions the first three cases give the view
-    pub rim_is_view : (l : ℕ) (e : EdgeAt) → e.level ≡ suc l → on (next e.axis) (edge_numbers e) % 2 ≡ 0 → on (next (next e.axis)) (edge_numbers e) % 2 ≡ 0 → rim_view g v (edge_view_at g v l) e ≡ edge_view g v e
+    pub rim_is_view : (l : ℕ) (e : EdgeAt) → e.level ≡ suc l → on (next e.axis) (edge_numbers e) % 2 ≡ 0 → on (next (next e.axis)) (edge_numbers e) % 2 ≡ 0 → outer_edge_view g v (edge_view_at g v l) e ≡ edge_view g v e
     rim_is_view l e level p q = elim (cases_Bool (is_split_edge g e)) [
       | inl s ↦ rim_split (edge_view_at g v l) e s ∙ sym (view_split e s)
       | inr n ↦ elim (cases_Bool (is_leaf_edge g e)) [

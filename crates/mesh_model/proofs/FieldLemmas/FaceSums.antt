@@ -9,7 +9,7 @@ use Rattle.amr_num.specs.Numbers.{part, sum_below}
 use Rattle.amr_num.proofs.Parts.{parts_add_up, sum_below_same}
 use Rattle.mesh_model.specs.Geometry.Coordinates.{sub_cell, sub_face, parent_face, extent, on, face_numbers}
 use Rattle.mesh_model.specs.Tree.Kinds.{Grid, is_leaf, is_split, holds, is_split_face, is_leaf_face}
-use Rattle.mesh_model.specs.Fields.Views.{face_down, side_view, face_view_at, face_view, quarter_of}
+use Rattle.mesh_model.specs.Fields.Views.{face_down, outer_face_view, face_view_at, face_view, quarter_of}
 use Rattle.mesh_model.proofs.TreeLemmas.Tests.{both_false, either_true, or_right}
 use Rattle.mesh_model.proofs.FieldLemmas.CellSums.{TreeLike}
 use Rattle.mesh_model.proofs.FieldLemmas.Slots.{low_cell_sub, high_cell_sub, even_position, quarter_of_sub, parent_of_sub_face}
@@ -66,17 +66,17 @@ module _ (g : Grid) (tree : TreeLike g) (wide : (a : Axis) (l : ℕ) → 0 < ext
     down_split d f h = rw (h, face_down) refl
 
     -- what the first three cases give
-    pub side_split : (above : FaceAt → ℤ) (f : FaceAt) → is_split_face g f ≡ true → side_view g v above f ≡ face_down g v (10 - f.level) f
-    unfolding side_view
-    side_split above f h = rw (h, side_view) refl
+    pub side_split : (above : FaceAt → ℤ) (f : FaceAt) → is_split_face g f ≡ true → outer_face_view g v above f ≡ face_down g v (10 - f.level) f
+    unfolding outer_face_view
+    side_split above f h = rw (h, outer_face_view) refl
 
-    pub side_leaf : (above : FaceAt → ℤ) (f : FaceAt) → is_split_face g f ≡ false → is_leaf_face g f ≡ true → side_view g v above f ≡ v f
-    unfolding side_view
-    side_leaf above f n h = rw (n, side_view) (rw h refl)
+    pub side_leaf : (above : FaceAt → ℤ) (f : FaceAt) → is_split_face g f ≡ false → is_leaf_face g f ≡ true → outer_face_view g v above f ≡ v f
+    unfolding outer_face_view
+    side_leaf above f n h = rw (n, outer_face_view) (rw h refl)
 
-    pub side_part : (above : FaceAt → ℤ) (f : FaceAt) → is_split_face g f ≡ false → is_leaf_face g f ≡ false → side_view g v above f ≡ part (quarter_of f) (above (parent_face f)) 4
-    unfolding side_view
-    side_part above f n h = rw (n, side_view) (rw h refl)
+    pub side_part : (above : FaceAt → ℤ) (f : FaceAt) → is_split_face g f ≡ false → is_leaf_face g f ≡ false → outer_face_view g v above f ≡ part (quarter_of f) (above (parent_face f)) 4
+    unfolding outer_face_view
+    side_part above f n h = rw (n, outer_face_view) (rw h refl)
 
     at_split : (l : ℕ) (f : FaceAt) → is_split_face g f ≡ true → face_view_at g v l f ≡ face_down g v (10 - f.level) f
     unfolding face_view_at
@@ -99,7 +99,7 @@ module _ (g : Grid) (tree : TreeLike g) (wide : (a : Axis) (l : ℕ) → 0 < ext
     view_leaf f n h = at_leaf f.level f n h
 
     -- at an even position the first three cases give the view
-    pub side_is_view : (l : ℕ) (f : FaceAt) → f.level ≡ suc l → on f.axis (face_numbers f) % 2 ≡ 0 → side_view g v (face_view_at g v l) f ≡ face_view g v f
+    pub side_is_view : (l : ℕ) (f : FaceAt) → f.level ≡ suc l → on f.axis (face_numbers f) % 2 ≡ 0 → outer_face_view g v (face_view_at g v l) f ≡ face_view g v f
     side_is_view l f level e = elim (cases_Bool (is_split_face g f)) [
       | inl s ↦ side_split (face_view_at g v l) f s ∙ sym (view_split f s)
       | inr n ↦ elim (cases_Bool (is_leaf_face g f)) [

@@ -11,7 +11,7 @@ use Rattle.mesh_model.specs.Geometry.Canonical.{is_canonical, is_canonical_edge}
 use Rattle.mesh_model.specs.Fields.Valid.{OnLeaves, ValidMesh}
 use Rattle.mesh_model.specs.Fields.Circulation.{net_flux}
 use Rattle.mesh_model.specs.Fields.Views.{cell_view, face_view, edge_view}
-use Rattle.mesh_model.specs.Fields.Advect.{Speeds, Courant, flux, advect}
+use Rattle.mesh_model.specs.Fields.Advect.{Speeds, keeps_courant, flux, advect}
 use Rattle.mesh_model.specs.Fields.Regrid.{regrid}
 use Rattle.mesh_model.specs.Tree.Regrown.{new_grid}
 use Rattle.mesh_model.specs.Fields.Induct.{with_faces}
@@ -45,7 +45,7 @@ pub faces_on_leaves : (m : Mesh) (k : FaceAt → ℤ) → OnLeaves m → OnLeave
 faces_on_leaves m k h = record { cells = h.cells; faces = face_off m.grid k; edges = h.edges }
 
 -- where no content of a leaf cell is below 0, none is after an advect
-pub leaf_contents_stay_low : (m : Mesh) (var : ℕ) (n : Speeds) (v : ℕ) → ValidMesh m → OnLeaves m → Courant m.grid.shape n → ((c : CellAt) → is_leaf m.grid c ≡ true → pos 0 ≤ℤ m.cells v c) → (c : CellAt) → pos 0 ≤ℤ (advect m var n).cells v c
+pub leaf_contents_stay_low : (m : Mesh) (var : ℕ) (n : Speeds) (v : ℕ) → ValidMesh m → OnLeaves m → keeps_courant m.grid.shape n ≡ true → ((c : CellAt) → is_leaf m.grid c ≡ true → pos 0 ≤ℤ m.cells v c) → (c : CellAt) → pos 0 ≤ℤ (advect m var n).cells v c
 leaf_contents_stay_low m var n v valid on courant low = advect_stays_low m var n valid courant v (λ c. elim (cases_Bool (is_leaf m.grid c)) [
   | inl t ↦ low c t
   | inr f ↦ subst (λ z. pos 0 ≤ℤ z) (sym (on.cells v c f)) (omega (arith, ints))

@@ -9,7 +9,7 @@ use Rattle.amr_num.specs.declared.CellAt.{CellAt}
 use Rattle.amr_num.specs.declared.FaceAt.{FaceAt}
 use Rattle.mesh_model.specs.Geometry.Coordinates.{sub_cell, sub_face, parent_face, low_cell, high_cell, extent, on, face_numbers, face_of, after, below, above, moved, is_periodic}
 use Rattle.mesh_model.specs.Tree.Kinds.{Grid, is_leaf, is_split, holds, is_split_face, is_leaf_face}
-use Rattle.mesh_model.specs.Fields.Views.{side_view, face_view_at, face_view, is_even, sides_of, inner_face}
+use Rattle.mesh_model.specs.Fields.Views.{outer_face_view, face_view_at, face_view, is_even, sides_of, inner_face}
 use Rattle.mesh_model.proofs.FieldLemmas.CellSums.{TreeLike}
 use Rattle.amr_num.specs.Numbers.{sum_below}
 use Rattle.mesh_model.proofs.FieldLemmas.FaceSums as faces
@@ -21,15 +21,15 @@ pub not_even : (p : ℕ) → p % 2 ≡ 1 → is_even p ≡ false
 not_even p h = ne_eqb (p % 2) 0 (λ e. absurd (omega arith))
 
 module _ (g : Grid) (tree : TreeLike g) (wide : (a : Axis) (l : ℕ) → 0 < extent g.shape a l) (v : FaceAt → ℤ) where
-  pub at_odd : (l : ℕ) (f : FaceAt) → is_split_face g f ≡ false → is_leaf_face g f ≡ false → on f.axis (face_numbers f) % 2 ≡ 1 → face_view_at g v (suc l) f ≡ inner_face (sides_of g (side_view g v (face_view_at g v l)) (face_numbers (parent_face f))) f.axis (f.x % 2) (f.y % 2) (f.z % 2)
+  pub at_odd : (l : ℕ) (f : FaceAt) → is_split_face g f ≡ false → is_leaf_face g f ≡ false → on f.axis (face_numbers f) % 2 ≡ 1 → face_view_at g v (suc l) f ≡ inner_face (sides_of g (outer_face_view g v (face_view_at g v l)) (face_numbers (parent_face f))) f.axis (f.x % 2) (f.y % 2) (f.z % 2)
   unfolding face_view_at
   at_odd l f n h e = rw (n, h, not_even _ e, face_view_at) refl
 
   -- a subface on a side is seen as the rule takes it
-  outer_is_view : (f : FaceAt) (r : ℕ) → side_view g v (face_view_at g v f.level) (sub_face f r) ≡ face_view g v (sub_face f r)
+  outer_is_view : (f : FaceAt) (r : ℕ) → outer_face_view g v (face_view_at g v f.level) (sub_face f r) ≡ face_view g v (sub_face f r)
   outer_is_view f r = faces.side_is_view g tree wide v f.level (sub_face f r) refl (even_position f r)
 
-  pub same_sides : (c : CellAt) → sides_of g (side_view g v (face_view_at g v c.level)) c ≡ sides_of g (face_view g v) c
+  pub same_sides : (c : CellAt) → sides_of g (outer_face_view g v (face_view_at g v c.level)) c ≡ sides_of g (face_view g v) c
   same_sides c = λ i. record {
     x_low = λ q. outer_is_view (face_of X c) q i;
     x_high = λ q. outer_is_view (face_of X (after g.shape X c)) q i;
@@ -54,7 +54,7 @@ module _ (g : Grid) (tree : TreeLike g) (wide : (a : Axis) (l : ℕ) → 0 < ext
         let split : is_split_face g f ≡ false = whole_inside f p q low high in
         let leaf : is_leaf_face g f ≡ false = no_leaf_inside f p q low high in
         ap (λ l. face_view_at g v l f) level ∙ at_odd c.level f split leaf odd
-        ∙ ap (λ d. inner_face (sides_of g (side_view g v (face_view_at g v c.level)) d) f.axis (f.x % 2) (f.y % 2) (f.z % 2)) parent
+        ∙ ap (λ d. inner_face (sides_of g (outer_face_view g v (face_view_at g v c.level)) d) f.axis (f.x % 2) (f.y % 2) (f.z % 2)) parent
         ∙ ap (λ o. inner_face o f.axis (f.x % 2) (f.y % 2) (f.z % 2)) (same_sides c)
 
     below_odd : (periodic : Bool) (e p : ℕ) → below periodic e (2 * p + 1) ≡ Some (2 * p)

@@ -11,10 +11,10 @@ use Rattle.mesh_model.specs.Geometry.Coordinates.{wrapped}
 use Rattle.mesh_model.specs.Tree.Kinds.{Grid, is_leaf_block, is_split_block, is_leaf_face, is_split_face, is_leaf_edge, is_split_edge, is_leaf}
 use Rattle.mesh_model.specs.Geometry.Canonical.{is_canonical_at}
 use Rattle.mesh_model.specs.Fields.InnerRule.{middle_x, middle_y, middle_z}
-use Rattle.mesh_model.specs.Fields.Views.{sum_down, view_at, face_down, side_view, face_view_at, face_view, edge_down, rim_view, edge_view_at}
+use Rattle.mesh_model.specs.Fields.Views.{sum_down, view_at, face_down, outer_face_view, face_view_at, face_view, edge_down, outer_edge_view, edge_view_at}
 use Rattle.mesh_model.specs.Fields.Totals.{box_sum, leaf_sum, total}
 use Rattle.mesh_model.specs.Fields.Advect.{Speeds, advected, outflow, on_outer_side}
-use Rattle.mesh_model.specs.Fields.Induct.{leaf_emf, inducted}
+use Rattle.mesh_model.specs.Fields.Induct.{leaf_electromotive_force, inducted}
 
 fine : ℕ → ℕ → ℕ → BlockAt
 fine x y z = record { level = 1; x = x; y = y; z = z }
@@ -44,7 +44,7 @@ face a l x y z = record { axis = a; level = l; x = x; y = y; z = z }
 
 -- a face with a split side; an odd face on the border, a face inside the coarse leaf beside its finer neighbour, by the inner rule, on x and z; a leaf face
 views_at_the_jump : ◌≡◌ {A = List ℤ} (face_view jump numbers (face X 0 4 1 2) ∷ face_view jump numbers (face Y 1 9 3 4) ∷ face_view jump numbers (face X 1 9 2 2) ∷ face_view jump numbers (face Z 1 9 3 3) ∷ face_view jump numbers (face X 0 3 1 1) ∷ []) (pos 2 ∷ pos 4 ∷ pos 3 ∷ pos 4 ∷ pos 9 ∷ [])
-unfolding jump fine is_leaf_block is_split_block numbers axis_number face part carry spread is_leaf_face is_split_face is_leaf_edge is_split_edge is_canonical_at wrapped middle_x middle_y middle_z face_down side_view face_view_at edge_down rim_view edge_view_at leaf_emf
+unfolding jump fine is_leaf_block is_split_block numbers axis_number face part carry spread is_leaf_face is_split_face is_leaf_edge is_split_edge is_canonical_at wrapped middle_x middle_y middle_z face_down outer_face_view face_view_at edge_down outer_edge_view edge_view_at leaf_electromotive_force
 views_at_the_jump = refl
 
 speeds_one : Speeds
@@ -61,7 +61,7 @@ new_one : FaceAt → ℤ
 new_one = inducted jump numbers speeds_one
 
 induct_one : ◌≡◌ {A = List ℤ} (new_one (face X 0 4 1 2) ∷ new_one (face X 1 8 2 5) ∷ new_one (face X 1 8 3 4) ∷ new_one (face X 1 0 0 0) ∷ new_one (face X 0 8 3 3) ∷ new_one (face Y 0 4 1 1) ∷ new_one (face Y 1 7 4 6) ∷ new_one (face Y 1 7 8 7) ∷ new_one (face Y 0 5 4 2) ∷ new_one (face Z 0 4 2 1) ∷ new_one (face Z 1 7 3 8) ∷ new_one (face Z 1 6 6 0) ∷ new_one (face Z 0 7 3 4) ∷ new_one (face Y 0 4 0 0) ∷ []) (pos 0 ∷ pos 0 ∷ pos 4 ∷ pos 0 ∷ pos 1 ∷ negsuc 5 ∷ pos 1 ∷ pos 7 ∷ pos 2 ∷ negsuc 3 ∷ pos 5 ∷ negsuc 2 ∷ negsuc 6 ∷ negsuc 2 ∷ [])
-unfolding new_one speeds_one jump fine is_leaf_block is_split_block numbers axis_number face part carry spread is_leaf_face is_split_face is_leaf_edge is_split_edge is_canonical_at wrapped middle_x middle_y middle_z face_down side_view face_view_at edge_down rim_view edge_view_at leaf_emf
+unfolding new_one speeds_one jump fine is_leaf_block is_split_block numbers axis_number face part carry spread is_leaf_face is_split_face is_leaf_edge is_split_edge is_canonical_at wrapped middle_x middle_y middle_z face_down outer_face_view face_view_at edge_down outer_edge_view edge_view_at leaf_electromotive_force
 induct_one = refl
 
 out_one : ◌≡◌ {A = List ℤ} (total jump contents ∷ outflow jump contents speeds_one ∷ []) (pos 3440 ∷ negsuc 158 ∷ [])
@@ -82,7 +82,7 @@ new_two : FaceAt → ℤ
 new_two = inducted jump numbers speeds_two
 
 induct_two : ◌≡◌ {A = List ℤ} (new_two (face X 0 4 1 2) ∷ new_two (face X 1 8 2 5) ∷ new_two (face X 1 8 3 4) ∷ new_two (face X 1 0 0 0) ∷ new_two (face X 0 8 3 3) ∷ new_two (face Y 0 4 1 1) ∷ new_two (face Y 1 7 4 6) ∷ new_two (face Y 1 7 8 7) ∷ new_two (face Y 0 5 4 2) ∷ new_two (face Z 0 4 2 1) ∷ new_two (face Z 1 7 3 8) ∷ new_two (face Z 1 6 6 0) ∷ new_two (face Z 0 7 3 4) ∷ new_two (face Y 0 4 0 0) ∷ []) (pos 0 ∷ negsuc 0 ∷ pos 4 ∷ negsuc 5 ∷ pos 1 ∷ negsuc 1 ∷ pos 0 ∷ pos 1 ∷ pos 0 ∷ pos 3 ∷ pos 1 ∷ negsuc 2 ∷ negsuc 0 ∷ negsuc 1 ∷ [])
-unfolding new_two speeds_two jump fine is_leaf_block is_split_block numbers axis_number face part carry spread is_leaf_face is_split_face is_leaf_edge is_split_edge is_canonical_at wrapped middle_x middle_y middle_z face_down side_view face_view_at edge_down rim_view edge_view_at leaf_emf
+unfolding new_two speeds_two jump fine is_leaf_block is_split_block numbers axis_number face part carry spread is_leaf_face is_split_face is_leaf_edge is_split_edge is_canonical_at wrapped middle_x middle_y middle_z face_down outer_face_view face_view_at edge_down outer_edge_view edge_view_at leaf_electromotive_force
 induct_two = refl
 
 out_two : ◌≡◌ {A = List ℤ} (total jump contents ∷ outflow jump contents speeds_two ∷ []) (pos 3440 ∷ pos 231 ∷ [])

@@ -11,8 +11,9 @@ use Rattle.amr_num.specs.Numbers.{floor_div}
 use Rattle.mesh_model.specs.Geometry.Coordinates.{parent_cell, parent_face, edge_of, edge_numbers, face_numbers, after, wrapped, with, on, next, extent, is_periodic, low_cell, high_cell, Inside, EdgeInside}
 use Rattle.mesh_model.specs.Tree.Kinds.{Grid, block_of, holds, is_leaf, is_split, is_leaf_block, is_split_edge, is_leaf_edge, is_split_face, is_leaf_face}
 use Rattle.mesh_model.specs.Tree.ValidGrid.{Valid}
-use Rattle.mesh_model.specs.Fields.Views.{is_even, evens, even_round, sum_of, rim_view, edge_view_at, is_even_edge, edge_view, side_view, face_view_at, face_view, sides_of, inner_face}
-use Rattle.mesh_model.proofs.FieldLemmas.Beside.{with_level, with_own, own, above_in}
+use Rattle.mesh_model.specs.Fields.Views.{is_even, evens, even_round, sum_of, outer_edge_view, edge_view_at, is_even_edge, edge_view, outer_face_view, face_view_at, face_view, sides_of, inner_face}
+use Rattle.mesh_model.proofs.FieldLemmas.Beside.{with_level, own, above_in}
+use Rattle.mesh_model.proofs.GeometryLemmas.OnAxes.{with_own}
 use Rattle.mesh_model.proofs.FieldLemmas.CellKinds.{wide_of}
 use Rattle.mesh_model.proofs.TreeLemmas.Tests.{refuted, both_false, or_right}
 use Rattle.mesh_model.proofs.TreeLemmas.Tiling.{child_of_split}
@@ -85,11 +86,6 @@ second_stays X r c = refl
 second_stays Y r c = refl
 second_stays Z r c = refl
 
-along_stays : (a : Axis) (r t : ℕ) (c : CellAt) → on a (across a r t c) ≡ on a c
-along_stays X r t c = refl
-along_stays Y r t c = refl
-along_stays Z r t c = refl
-
 module _ (g : Grid) (valid : Valid g) (l : ℕ) (e : EdgeAt) (deep : e.level ≡ suc l) (i : EdgeInside g.shape e) where
   -- n moved to even positions beside e
   abbrev Around : CellAt → Type 0
@@ -113,7 +109,7 @@ module _ (g : Grid) (valid : Valid g) (l : ℕ) (e : EdgeAt) (deep : e.level ≡
   module _ (v : EdgeAt → ℤ) (whole : is_split_edge g e ≡ false) (no_leaf : is_leaf_edge g e ≡ false) where
     -- what the mean takes at an even position
     even_at : CellAt → ℤ
-    even_at c = rim_view g v (edge_view_at g v l) (edge_of e.axis c)
+    even_at c = outer_edge_view g v (edge_view_at g v l) (edge_of e.axis c)
 
     at_mean : is_even_edge e ≡ false → edge_view_at g v (suc l) e ≡ floor_div (sum_of (map even_at (even_round g e))) (length (even_round g e))
     unfolding edge_view_at even_at
@@ -139,26 +135,8 @@ module _ (g : Grid) (valid : Valid g) (l : ℕ) (f : FaceAt) (deep : f.level ≡
   high : high_cell g.shape f ≡ Some (face_numbers f)
   high = own f.axis (face_numbers f) _ (above_in _ _ _ (i f.axis))
 
-  high_whole : is_split g (face_numbers f) ≡ false
-  unfolding is_split_face
-  high_whole = sym (ap (holds (is_split g)) high) ∙ (both_false (holds (is_split g) (low_cell g.shape f)) (holds (is_split g) (high_cell g.shape f)) whole).1
-
-  high_no_leaf : is_leaf g (face_numbers f) ≡ false
-  unfolding is_leaf_face
-  high_no_leaf = refuted _ (λ t.
-      let beside : (holds (is_leaf g) (low_cell g.shape f) || holds (is_leaf g) (high_cell g.shape f)) ≡ true = or_right (holds (is_leaf g) (low_cell g.shape f)) _ (ap (holds (is_leaf g)) high ∙ t) in
-      let leaf : is_leaf_face g f ≡ true = ap₂ (λ a b. a && not b) beside whole in
-      cc)
-
   round : CellAt
   round = face_numbers (parent_face f)
-
-  round_whole : is_split g round ≡ false
-  unfolding round
-  round_whole = refuted _ (λ split.
-      let leaf = child_of_split g valid.tiles (block_of g.shape.n (face_numbers f)) (block_of g.shape.n (parent_cell (face_numbers f))) (parent_block_of g.shape.n l (face_numbers f) deep) split high_whole in
-      let none : is_leaf_block g (block_of g.shape.n (face_numbers f)) ≡ false = high_no_leaf in
-      cc)
 
   -- a face at an odd position that is no leaf face is what the inner rule gives of the views round its cell
   pub view_inner : (v : FaceAt → ℤ) → on f.axis (face_numbers f) % 2 ≡ 1 → face_view g v f ≡ inner_face (sides_of g (face_view g v) (face_numbers (parent_face f))) f.axis (f.x % 2) (f.y % 2) (f.z % 2)
@@ -169,5 +147,5 @@ module _ (g : Grid) (valid : Valid g) (l : ℕ) (f : FaceAt) (deep : f.level ≡
       let width = wide_of g.shape valid.shape in
       ap (λ k. face_view_at g v k f) deep
       ∙ at_odd g (tree g valid) width v l f whole no_leaf odd
-      ∙ ap (λ k. inner_face (sides_of g (side_view g v (face_view_at g v k)) c) f.axis (f.x % 2) (f.y % 2) (f.z % 2)) level
+      ∙ ap (λ k. inner_face (sides_of g (outer_face_view g v (face_view_at g v k)) c) f.axis (f.x % 2) (f.y % 2) (f.z % 2)) level
       ∙ ap (λ o. inner_face o f.axis (f.x % 2) (f.y % 2) (f.z % 2)) (same_sides g (tree g valid) width v c)

@@ -1,5 +1,5 @@
 -- Advect leaves no content below 0: what leaves a cell is at most its content.
-use Rattle.std.proofs.Common.{◌≡◌, ℕ, zero, suc, ◌+◌, ◌-◌, ◌*◌, ◌/◌, ◌^◌, ◌<◌, ◌≤◌, Bool, true, false, ℤ, pos, negsuc, ◌+ℤ◌, ◌-ℤ◌, ◌*ℤ◌, ◌≤ℤ◌, refl, sym, ap, ◌∙◌, arith, inl, inr, subst, Option, Some, None}
+use Rattle.std.proofs.Common.{leb-true, ◌≡◌, ℕ, zero, suc, ◌+◌, ◌-◌, ◌*◌, ◌/◌, ◌^◌, ◌<◌, ◌≤◌, Bool, true, false, ℤ, pos, negsuc, ◌+ℤ◌, ◌-ℤ◌, ◌*ℤ◌, ◌≤ℤ◌, refl, sym, ap, ◌∙◌, arith, inl, inr, subst, Option, Some, None}
 use Rattle.std.specs.Prelude.{◌==◌, if◌then◌else◌, nat_lt, unsigned_abs, neg_ℤ, option_map}
 use Rattle.std.proofs.Math.Nat.{mul-le-mul_left, mul-le-mul_right, div-mul-le_self}
 use Rattle.std.proofs.Math.Pow.{pow_mono}
@@ -20,7 +20,7 @@ use Rattle.mesh_model.specs.Tree.ValidGrid.{Valid}
 use Rattle.mesh_model.specs.Fields.Valid.{ValidMesh}
 use Rattle.mesh_model.specs.Fields.Views.{sum_down, view_at, cell_view, face_down}
 use Rattle.mesh_model.specs.Fields.Circulation.{net_flux}
-use Rattle.mesh_model.specs.Fields.Advect.{Speeds, speed, Courant, below_or, above_or, donor, on_closed_side, leaf_flux, flux, advected, advect}
+use Rattle.mesh_model.specs.Fields.Advect.{Speeds, speed, keeps_courant, below_or, above_or, donor, on_closed_side, leaf_flux, flux, advected, advect}
 use Rattle.mesh_model.proofs.FieldLemmas.CellKinds.{Kinds, kinds_of_tiles, wide_of}
 use Rattle.mesh_model.proofs.FieldLemmas.CellSums.{cell_view_sum}
 use Rattle.mesh_model.proofs.FieldLemmas.FaceSums as faces
@@ -89,6 +89,11 @@ four_of_eight Y (suc zero) u p low = omega (arith, ints, low 0, low 1, low 4, lo
 four_of_eight Z zero u p low = omega (arith, ints, low 4, low 5, low 6, low 7)
 four_of_eight Z (suc zero) u p low = omega (arith, ints, low 0, low 1, low 2, low 3)
 four_of_eight a (suc (suc h)) u p low = absurd (omega arith)
+
+-- under the Courant limit the speeds move at most one finest cell
+courant_says : (s : Shape) (n : Speeds) → keeps_courant s n ≡ true → (unsigned_abs n.x + unsigned_abs n.y + unsigned_abs n.z) * 2 ^ s.max ≤ 2 ^ 20
+unfolding keeps_courant
+courant_says s n h = leb-true _ _ h
 
 -- ---- views of contents that are not negative
 
@@ -280,22 +285,22 @@ module _ (g : Grid) (valid : Valid g) (content : CellAt → ℤ) (n : Speeds) (l
         (λ f d ax lv b. back_high g content n low k f d (by_axis a f ax (negsuc k) e) lv b)
         (10 - down.level) down c refl (kinds.leaf_top c leaf) (high_here g.shape a c i)))
 
-    pub content_stays_low : Courant g.shape n → pos 0 ≤ℤ (content c -ℤ net_flux g (flux g content n) c)
+    pub content_stays_low : keeps_courant g.shape n ≡ true → pos 0 ≤ℤ (content c -ℤ net_flux g (flux g content n) c)
     content_stays_low courant =
         let along = λ (a : Axis). flux g content n (face_of a (after g.shape a c)) -ℤ flux g content n (face_of a c) in
         subst (λ v. pos 0 ≤ℤ (v -ℤ net_flux g (flux g content n) c)) (view_of_leaf g kinds content c leaf)
-        (enough (unsigned_abs n.x) (unsigned_abs n.y) (unsigned_abs n.z) (2 ^ g.shape.max) (along X) (along Y) (along Z) (cell_view g content c) courant (view_low g content low c)
+        (enough (unsigned_abs n.x) (unsigned_abs n.y) (unsigned_abs n.z) (2 ^ g.shape.max) (along X) (along Y) (along Z) (cell_view g content c) (courant_says g.shape n courant) (view_low g content low c)
         (axis_out X n.x refl) (axis_out Y n.y refl) (axis_out Z n.z refl))
 
   -- contents of at least 0 stay so
-  pub advected_low : Courant g.shape n → (c : CellAt) → pos 0 ≤ℤ advected g content n c
+  pub advected_low : keeps_courant g.shape n ≡ true → (c : CellAt) → pos 0 ≤ℤ advected g content n c
   advected_low courant c = elim (cases_Bool (is_leaf g c)) [
     | inl t ↦ rw t (content_stays_low c (kinds.leaf_range c t) t courant)
     | inr f ↦ rw f (omega (arith, ints))
   ]
 
 -- where no content of a variable is below 0, none is after an advect
-pub advect_stays_low : (m : Mesh) (var : ℕ) (n : Speeds) → ValidMesh m → Courant m.grid.shape n → (v : ℕ) → ((c : CellAt) → pos 0 ≤ℤ m.cells v c) → (c : CellAt) → pos 0 ≤ℤ (advect m var n).cells v c
+pub advect_stays_low : (m : Mesh) (var : ℕ) (n : Speeds) → ValidMesh m → keeps_courant m.grid.shape n ≡ true → (v : ℕ) → ((c : CellAt) → pos 0 ≤ℤ m.cells v c) → (c : CellAt) → pos 0 ≤ℤ (advect m var n).cells v c
 advect_stays_low m var n valid courant v low c = elim (cases_Bool (v == var)) [
   | inl t ↦ rw t (advected_low m.grid valid.grid (m.cells v) n low courant c)
   | inr f ↦ rw f (low c)

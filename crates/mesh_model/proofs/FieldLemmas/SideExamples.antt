@@ -13,10 +13,10 @@ use Rattle.mesh_model.specs.Geometry.Coordinates.{wrapped}
 use Rattle.mesh_model.specs.Tree.Kinds.{Grid, is_leaf_block, is_split_block, is_leaf_face, is_split_face, is_leaf_edge, is_split_edge}
 use Rattle.mesh_model.specs.Fields.Plain.{Mesh}
 use Rattle.mesh_model.specs.Geometry.Canonical.{is_canonical_at}
-use Rattle.mesh_model.specs.Fields.Views.{sum_down, view_at, face_down, side_view, face_view_at, edge_down, rim_view, edge_view_at}
+use Rattle.mesh_model.specs.Fields.Views.{sum_down, view_at, face_down, outer_face_view, face_view_at, edge_down, outer_edge_view, edge_view_at}
 use Rattle.mesh_model.specs.Fields.Totals.{box_sum, leaf_sum, total}
 use Rattle.mesh_model.specs.Fields.Advect.{Speeds, advect, on_outer_side}
-use Rattle.mesh_model.specs.Fields.Induct.{leaf_emf, inducted, curled}
+use Rattle.mesh_model.specs.Fields.Induct.{leaf_electromotive_force, inducted, curled}
 
 one_block : List SideKind → Grid
 one_block sides = record { shape = record { rx = 1; ry = 1; rz = 1; n = 4; g = 1; min = 0; max = 0; sides = sides }; leaves = (record { level = 0; x = 0; y = 0; z = 0 }) ∷ [] }
@@ -72,12 +72,12 @@ its_curl : FaceAt → ℤ
 its_curl = curled around one_edge
 
 curl_of_one_edge : ◌≡◌ {A = List ℤ} (its_curl (face X 1 0 0) ∷ its_curl (face X 1 1 0) ∷ its_curl (face X 2 0 0) ∷ its_curl (face Y 0 1 0) ∷ its_curl (face Y 1 1 0) ∷ its_curl (face Y 1 1 1) ∷ []) (pos 10 ∷ negsuc 9 ∷ pos 0 ∷ negsuc 9 ∷ pos 10 ∷ pos 0 ∷ [])
-unfolding its_curl one_edge around one_block is_canonical_at face is_z part is_leaf_block is_split_block is_leaf_face is_split_face is_leaf_edge is_split_edge wrapped edge_down rim_view edge_view_at
+unfolding its_curl one_edge around one_block is_canonical_at face is_z part is_leaf_block is_split_block is_leaf_face is_split_face is_leaf_edge is_split_edge wrapped edge_down outer_edge_view edge_view_at
 curl_of_one_edge = refl
 
 carried_curl : FaceAt → ℤ
 carried_curl = inducted around its_curl (record { x = pos 524288; y = pos 0; z = pos 0 })
 
 induct_moves_half_a_cell : ◌≡◌ {A = List ℤ} (carried_curl (face X 0 0 0) ∷ carried_curl (face X 1 0 0) ∷ carried_curl (face X 2 0 0) ∷ carried_curl (face X 3 0 0) ∷ carried_curl (face X 1 1 0) ∷ carried_curl (face X 2 1 0) ∷ carried_curl (face X 1 0 1) ∷ carried_curl (face Y 0 1 0) ∷ carried_curl (face Y 1 1 0) ∷ carried_curl (face Y 2 1 0) ∷ carried_curl (face Y 0 0 0) ∷ carried_curl (face Z 0 0 0) ∷ []) (pos 0 ∷ pos 5 ∷ pos 5 ∷ pos 0 ∷ negsuc 4 ∷ negsuc 4 ∷ pos 0 ∷ negsuc 4 ∷ pos 0 ∷ pos 5 ∷ pos 0 ∷ pos 0 ∷ [])
-unfolding carried_curl its_curl one_edge around one_block is_canonical_at face is_z part carry leaf_emf is_leaf_block is_split_block is_leaf_face is_split_face is_leaf_edge is_split_edge wrapped face_down side_view face_view_at edge_down rim_view edge_view_at
+unfolding carried_curl its_curl one_edge around one_block is_canonical_at face is_z part carry leaf_electromotive_force is_leaf_block is_split_block is_leaf_face is_split_face is_leaf_edge is_split_edge wrapped face_down outer_face_view face_view_at edge_down outer_edge_view edge_view_at
 induct_moves_half_a_cell = refl

@@ -13,9 +13,6 @@ use Rattle.mesh_model.specs.Geometry.Limits.{IsShape}
 use Rattle.mesh_model.proofs.TreeLemmas.Roots.{start_sorted, start_few, start_root, start_every}
 use Rattle.mesh_model.proofs.TreeLemmas.Tiling.{nested, same_level, domain_up}
 
-zero_on : (l x : ℕ) → l ≡ 0 → x < 1 * 2 ^ l → x ≡ 0
-zero_on l x h lt = let e = ap (λ k. 2 ^ k) h in omega arith
-
 module _ (g : Grid) (shape : IsShape g.shape) (roots : AllRoots g) where
   root_of : BlockAt → BlockAt
   root_of b = record { level = 0; x = b.x / 2 ^ b.level; y = b.y / 2 ^ b.level; z = b.z / 2 ^ b.level }

@@ -10,7 +10,7 @@ use Rattle.mesh_model.specs.Geometry.Coordinates.{wrapped}
 use Rattle.mesh_model.specs.Geometry.Blocks.{child_block, children}
 use Rattle.mesh_model.specs.Tree.Kinds.{Grid, is_leaf_block, is_split_block, is_leaf_edge, is_split_edge}
 use Rattle.mesh_model.specs.Fields.InnerRule.{Outer, middle_x, middle_y, middle_z}
-use Rattle.mesh_model.specs.Fields.Views.{edge_view, edge_down, rim_view, edge_view_at}
+use Rattle.mesh_model.specs.Fields.Views.{edge_view, edge_down, outer_edge_view, edge_view_at}
 
 -- the inner faces of one cell: which four x faces, two by two y faces and z faces balance the octants
 quad : ℤ → ℤ → ℤ → ℤ → ℕ → ℤ
@@ -58,5 +58,5 @@ edge_along_y : ℕ → ℕ → ℕ → ℕ → EdgeAt
 edge_along_y l x y z = record { axis = Y; level = l; x = x; y = y; z = z }
 
 edges_over_three_levels : ◌≡◌ {A = List ℤ} (edge_view three_levels edge_numbers_there (edge_along_y 1 9 2 1) ∷ edge_view three_levels edge_numbers_there (edge_along_y 1 9 2 2) ∷ edge_view three_levels edge_numbers_there (edge_along_y 2 17 5 3) ∷ []) (negsuc 8 ∷ negsuc 4 ∷ negsuc 3 ∷ [])
-unfolding three_levels edge_numbers_there edge_along_y wrapped is_leaf_block is_split_block is_leaf_edge is_split_edge part edge_down rim_view edge_view_at
+unfolding three_levels edge_numbers_there edge_along_y wrapped is_leaf_block is_split_block is_leaf_edge is_split_edge part edge_down outer_edge_view edge_view_at
 edges_over_three_levels = refl

@@ -12,6 +12,7 @@ use Rattle.amr_num.specs.declared.Axis.{Axis}
 use Rattle.amr_num.specs.declared.Axis.TheVariants.{X, Y, Z}
 use Rattle.amr_num.specs.declared.FaceAt.{FaceAt}
 use Rattle.amr_num.specs.declared.EdgeAt.{EdgeAt}
+use Rattle.mesh_model.proofs.GeometryLemmas.OnAxes.{on_with, with_own}
 use Rattle.mesh_model.specs.declared.geometry.Shape.{Shape}
 use Rattle.mesh_model.specs.declared.fields.spot.RangeStop.{RangeStop}
 use Rattle.mesh_model.specs.Geometry.Limits.{IsShape}
@@ -25,7 +26,7 @@ use Rattle.mesh_model.specs.Fields.RangeWalk.{cell_above, out_above, face_above,
 use Rattle.mesh_model.specs.Geometry.Places.{box_list, in_block, block_cells, block_faces, block_edges}
 use Rattle.mesh_model.proofs.GeometryLemmas.ShapeLimits.{cells_some, extent_some}
 use Rattle.mesh_model.proofs.TreeLemmas.Tests.{and_left, and_right, either_true}
-use Rattle.mesh_model.proofs.FieldLemmas.Beside.{with_level, with_own}
+use Rattle.mesh_model.proofs.FieldLemmas.Beside.{with_level}
 use Rattle.mesh_model.proofs.TreeLemmas.Tiling.{leaf_says}
 
 -- ---- members of lists
@@ -157,11 +158,6 @@ with_with : (a : Axis) (q p : ℕ) (c : CellAt) → with a q (with a p c) ≡ wi
 with_with X q p c = refl
 with_with Y q p c = refl
 with_with Z q p c = refl
-
-on_with : (a : Axis) (p : ℕ) (c : CellAt) → on a (with a p c) ≡ p
-on_with X p c = refl
-on_with Y p c = refl
-on_with Z p c = refl
 
 named : (s : Shape) (a : Axis) (q : ℕ) (d : CellAt) → canonical_face s (face_of a (with a q d)) ≡ face_of a (with a (wrapped (is_periodic s a) (extent s a d.level) q) d)
 named s a q d =
@@ -329,10 +325,10 @@ rim_walked Z n c o r some lo lr =
     subst (λ u. Member u (block_edges n (block_of n c) Z)) same (member_box (suc n) (suc n) n (c.x % n + o) (c.y % n + r) (c.z % n) (λ i j k. edge_of Z (in_block n (block_of n c) i j k)) (omega arith) (omega arith) (below_n c.z n some))
 
 -- the canonical name of the edge at u and v, and how the places of a cell beside it add up to them
-named_edge : (s : Shape) (a : Axis) (u v : ℕ) (c : CellAt) → canonical_edge s (edge_of a (across a u v c)) ≡ edge_of a (across a (wrapped (is_periodic s (next a)) (extent s (next a) c.level) u) (wrapped (is_periodic s (next (next a))) (extent s (next (next a)) c.level) v) c)
-named_edge s X u v c = refl
-named_edge s Y u v c = refl
-named_edge s Z u v c = refl
+canonical_across : (s : Shape) (a : Axis) (u v : ℕ) (c : CellAt) → canonical_edge s (edge_of a (across a u v c)) ≡ edge_of a (across a (wrapped (is_periodic s (next a)) (extent s (next a) c.level) u) (wrapped (is_periodic s (next (next a))) (extent s (next (next a)) c.level) v) c)
+canonical_across s X u v c = refl
+canonical_across s Y u v c = refl
+canonical_across s Z u v c = refl
 
 from_cell : (a : Axis) (q t o r : ℕ) (c : CellAt) → across a (on (next a) (across a q t c) + o) (on (next (next a)) (across a q t c) + r) (across a q t c) ≡ across a (q + o) (t + r) c
 from_cell X q t o r c = refl
@@ -355,7 +351,7 @@ rim_there g e q t o r some lo lr leaf first second =
     (member_map (canonical_edge g.shape) raw (block_edges n (block_of n c) e.axis) (rim_walked e.axis n c o r some lo lr))) in
     subst (λ u. Member u (edges_walked g)) (
     ap (λ d. canonical_edge g.shape (edge_of e.axis d)) (from_cell e.axis q t o r (edge_numbers e))
-    ∙ named_edge g.shape e.axis (q + o) (t + r) (edge_numbers e)
+    ∙ canonical_across g.shape e.axis (q + o) (t + r) (edge_numbers e)
     ∙ ap₂ (λ u v. edge_of e.axis (across e.axis u v (edge_numbers e))) first second
     ∙ ap (edge_of e.axis) (own_place e.axis (edge_numbers e)))
     walk

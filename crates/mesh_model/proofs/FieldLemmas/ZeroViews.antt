@@ -12,7 +12,7 @@ use Rattle.amr_num.specs.Numbers.{part, spread, floor_div, floor_mod}
 use Rattle.mesh_model.specs.Geometry.Coordinates.{sub_cell, parent_cell, octant_of, sub_face, parent_face, half_edge, parent_edge, on, face_numbers, edge_of}
 use Rattle.mesh_model.specs.Tree.Kinds.{Grid, is_leaf, is_split, is_leaf_face, is_split_face, is_leaf_edge, is_split_edge}
 use Rattle.mesh_model.specs.Fields.InnerRule.{Outer, middle_x, x_at, middle_y, y_at, middle_z}
-use Rattle.mesh_model.specs.Fields.Views.{sum_down, view_at, cell_view, quarter_of, sides_of, inner_face, is_even, face_down, side_view, face_view_at, face_view, half_of, even_round, sum_of, edge_down, rim_view, is_even_edge, edge_view_at, edge_view}
+use Rattle.mesh_model.specs.Fields.Views.{sum_down, view_at, cell_view, quarter_of, sides_of, inner_face, is_even, face_down, outer_face_view, face_view_at, face_view, half_of, even_round, sum_of, edge_down, outer_edge_view, is_even_edge, edge_view_at, edge_view}
 use Rattle.mesh_model.proofs.FieldLemmas.Sums.{sum_below_zero}
 
 abbrev none : {A : Type 0} → A → ℤ
@@ -64,13 +64,13 @@ module _ (g : Grid) where
     | inr n ↦ rw (n, face_down) refl
   ]
 
-  side_zero : (above : FaceAt → ℤ) → ((f : FaceAt) → above f ≡ pos 0) → (f : FaceAt) → side_view g none above f ≡ pos 0
-  unfolding side_view
+  side_zero : (above : FaceAt → ℤ) → ((f : FaceAt) → above f ≡ pos 0) → (f : FaceAt) → outer_face_view g none above f ≡ pos 0
+  unfolding outer_face_view
   side_zero above h f = elim (cases_Bool (is_split_face g f)) [
-    | inl t ↦ rw (t, side_view) (down_face (10 - f.level) f)
+    | inl t ↦ rw (t, outer_face_view) (down_face (10 - f.level) f)
     | inr n ↦ elim (cases_Bool (is_leaf_face g f)) [
-      | inl t ↦ rw (n, side_view) (rw t refl)
-      | inr o ↦ rw (n, side_view) (rw o (ap (λ u. part (quarter_of f) u 4) (h (parent_face f)) ∙ part_zero (quarter_of f) 3))
+      | inl t ↦ rw (n, outer_face_view) (rw t refl)
+      | inr o ↦ rw (n, outer_face_view) (rw o (ap (λ u. part (quarter_of f) u 4) (h (parent_face f)) ∙ part_zero (quarter_of f) 3))
     ]
   ]
 
@@ -121,7 +121,7 @@ module _ (g : Grid) where
   ]
   face_at (suc l) f = elim (cases_Bool (is_split_face g f || is_leaf_face g f || is_even (on f.axis (face_numbers f)))) [
     | inl t ↦ rw (t, face_view_at) (side_zero g (face_view_at g none l) (face_at l) f)
-    | inr n ↦ rw (n, face_view_at) (ap (λ o. inner_face o f.axis (f.x % 2) (f.y % 2) (f.z % 2)) (sides_calm (side_view g none (face_view_at g none l)) (side_zero g (face_view_at g none l) (face_at l)) (face_numbers (parent_face f))) ∙ inner_zero f.axis (f.x % 2) (f.y % 2) (f.z % 2))
+    | inr n ↦ rw (n, face_view_at) (ap (λ o. inner_face o f.axis (f.x % 2) (f.y % 2) (f.z % 2)) (sides_calm (outer_face_view g none (face_view_at g none l)) (side_zero g (face_view_at g none l) (face_at l)) (face_numbers (parent_face f))) ∙ inner_zero f.axis (f.x % 2) (f.y % 2) (f.z % 2))
   ]
 
   pub no_face_views : (number : FaceAt → ℤ) → ((f : FaceAt) → number f ≡ pos 0) → (f : FaceAt) → face_view g number f ≡ pos 0
@@ -137,13 +137,13 @@ module _ (g : Grid) where
     | inr n ↦ rw (n, edge_down) refl
   ]
 
-  rim_zero : (above : EdgeAt → ℤ) → ((e : EdgeAt) → above e ≡ pos 0) → (e : EdgeAt) → rim_view g none above e ≡ pos 0
-  unfolding rim_view
+  rim_zero : (above : EdgeAt → ℤ) → ((e : EdgeAt) → above e ≡ pos 0) → (e : EdgeAt) → outer_edge_view g none above e ≡ pos 0
+  unfolding outer_edge_view
   rim_zero above h e = elim (cases_Bool (is_split_edge g e)) [
-    | inl t ↦ rw (t, rim_view) (down_edge (10 - e.level) e)
+    | inl t ↦ rw (t, outer_edge_view) (down_edge (10 - e.level) e)
     | inr n ↦ elim (cases_Bool (is_leaf_edge g e)) [
-      | inl t ↦ rw (n, rim_view) (rw t refl)
-      | inr o ↦ rw (n, rim_view) (rw o (ap (λ u. part (half_of e) u 2) (h (parent_edge e)) ∙ part_zero (half_of e) 1))
+      | inl t ↦ rw (n, outer_edge_view) (rw t refl)
+      | inr o ↦ rw (n, outer_edge_view) (rw o (ap (λ u. part (half_of e) u 2) (h (parent_edge e)) ∙ part_zero (half_of e) 1))
     ]
   ]
 
@@ -159,7 +159,7 @@ module _ (g : Grid) where
   ]
   edge_at (suc l) e = elim (cases_Bool (is_split_edge g e || is_leaf_edge g e || is_even_edge e)) [
     | inl t ↦ rw (t, edge_view_at) (rim_zero (edge_view_at g none l) (edge_at l) e)
-    | inr n ↦ rw (n, edge_view_at) (ap (λ s. floor_div s (length (even_round g e))) (zeros (even_round g e) (λ c. rim_view g none (edge_view_at g none l) (edge_of e.axis c)) (λ c. rim_zero (edge_view_at g none l) (edge_at l) (edge_of e.axis c))) ∙ ap pos (zero-div (length (even_round g e))))
+    | inr n ↦ rw (n, edge_view_at) (ap (λ s. floor_div s (length (even_round g e))) (zeros (even_round g e) (λ c. outer_edge_view g none (edge_view_at g none l) (edge_of e.axis c)) (λ c. rim_zero (edge_view_at g none l) (edge_at l) (edge_of e.axis c))) ∙ ap pos (zero-div (length (even_round g e))))
   ]
 
   pub no_edge_views : (number : EdgeAt → ℤ) → ((e : EdgeAt) → number e ≡ pos 0) → (e : EdgeAt) → edge_view g number e ≡ pos 0

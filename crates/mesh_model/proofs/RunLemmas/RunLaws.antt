@@ -1,18 +1,18 @@
 -- What each command keeps, along a run up to the first that is refused.
-use Rattle.std.proofs.Common.{◌≡◌, ℕ, List, [], ◌∷◌, Option, Some, None, All, ℤ, pos, ◌+ℤ◌, ◌≤ℤ◌, refl, sym, ap, subst, ◌∙◌, ne_eqb}
+use Rattle.std.proofs.Common.{true, ◌≡◌, ℕ, List, [], ◌∷◌, Option, Some, None, All, ℤ, pos, ◌+ℤ◌, ◌≤ℤ◌, refl, sym, ap, subst, ◌∙◌, ne_eqb}
 use Rattle.std.proofs.lemmas.Bool.{leb-true}
 use Rattle.std.proofs.lemmas.List.Elements.{All-head, All-tail}
 use Rattle.mesh_model.specs.declared.language.script.Command.{Command}
 use Rattle.mesh_model.specs.declared.language.script.Command.TheVariants.{FillAll, FillBox, FaceSet, EdgeSet, Uniform, MarkRefine, MarkDerefine, RefineWhere, DerefineWhere, Regrid, Advect, Curl, Induct, Checkpoint, PrintSize, PrintMesh, PrintTree, PrintRanks, PrintTrace, PrintVar, PrintGuards, Total, NetFlux}
 use Rattle.mesh_model.specs.declared.language.script.Line.{Line}
 use Rattle.mesh_model.specs.declared.run.stops.Refusal.{Refusal}
-use Rattle.mesh_model.specs.Fields.Advect.{Courant, three}
+use Rattle.mesh_model.specs.Fields.Advect.{three, keeps_courant}
 use Rattle.mesh_model.specs.Language.Commands.{IsLineOf}
-use Rattle.mesh_model.specs.Fields.Induct.{leaf_emf}
+use Rattle.mesh_model.specs.Fields.Induct.{leaf_electromotive_force}
 use Rattle.mesh_model.specs.Fields.Plain.{Mesh}
 use Rattle.mesh_model.specs.Run.Runs.{AtEachCommand, KeepsBalance, KeepsOuts, KeepsTotals, StaysPositive, declared_in, done, mesh_after}
 use Rattle.mesh_model.specs.Fields.Setting.{derefine_where, mark_derefine, mark_refine, refine_where, set_edge, set_face}
-use Rattle.mesh_model.specs.Run.Stops.{keeps_courant, refusal}
+use Rattle.mesh_model.specs.Run.Stops.{refusal}
 use Rattle.mesh_model.specs.Fields.Valid.{ValidMesh}
 use Rattle.mesh_model.proofs.FieldLemmas.Conserving.{advect_conserves}
 use Rattle.mesh_model.proofs.FieldLemmas.Divergence.{circulation_keeps_net, curl_balances, uniform_balances}
@@ -78,9 +78,9 @@ keeps_outs m NetFlux v other = refl
 
 -- ---- no content below 0
 
-pub courant_held : (m : Mesh) (var : ℕ) (speeds : List ℤ) → refusal m (Advect var speeds) ≡ None → Courant m.grid.shape (three speeds)
-unfolding refusal keeps_courant
-courant_held m var speeds none = leb-true _ _ (held _ _ (neither _ _ none).0)
+pub courant_held : (m : Mesh) (var : ℕ) (speeds : List ℤ) → refusal m (Advect var speeds) ≡ None → keeps_courant m.grid.shape (three speeds) ≡ true
+unfolding refusal
+courant_held m var speeds none = held _ _ (neither _ _ none).0
 
 pub stays_positive : (m : Mesh) (command : Command) → ValidMesh m → refusal m command ≡ None → StaysPositive m command (mesh_after m command)
 stays_positive m command valid none v advects low c leaf =
@@ -105,7 +105,7 @@ keeps_balance m (DerefineWhere var below) valid other balanced = balanced
 keeps_balance m Regrid valid other balanced = regrid_balances m valid balanced
 keeps_balance m (Advect var speeds) valid other balanced = balanced
 keeps_balance m Curl valid other balanced = curl_balances m.grid valid.grid m.edges
-keeps_balance m (Induct speeds) valid other balanced = record { at_leaf = λ d t. circulation_keeps_net m.grid valid.grid m.faces (leaf_emf m.grid m.faces (three speeds)) d (leaf_inside m.grid valid.grid d t) t ∙ balanced.at_leaf d t }
+keeps_balance m (Induct speeds) valid other balanced = record { at_leaf = λ d t. circulation_keeps_net m.grid valid.grid m.faces (leaf_electromotive_force m.grid m.faces (three speeds)) d (leaf_inside m.grid valid.grid d t) t ∙ balanced.at_leaf d t }
 keeps_balance m Checkpoint valid other balanced = balanced
 keeps_balance m PrintSize valid other balanced = balanced
 keeps_balance m PrintMesh valid other balanced = balanced

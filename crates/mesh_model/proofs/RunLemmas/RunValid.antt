@@ -9,6 +9,7 @@ use Rattle.amr_num.specs.declared.BlockAt.{BlockAt}
 use Rattle.amr_num.specs.declared.CellAt.{CellAt}
 use Rattle.amr_num.specs.declared.EdgeAt.{EdgeAt}
 use Rattle.amr_num.specs.declared.FaceAt.{FaceAt}
+use Rattle.mesh_model.proofs.GeometryLemmas.OnAxes.{with_same}
 use Rattle.mesh_model.specs.declared.geometry.Shape.{Shape}
 use Rattle.mesh_model.specs.declared.language.script.Command.{Command}
 use Rattle.mesh_model.specs.declared.language.script.Command.TheVariants.{FillAll, FillBox, FaceSet, EdgeSet, Uniform, MarkRefine, MarkDerefine, RefineWhere, DerefineWhere, Regrid, Advect, Curl, Induct, Checkpoint, PrintSize, PrintMesh, PrintTree, PrintRanks, PrintTrace, PrintVar, PrintGuards, Total, NetFlux}
@@ -24,7 +25,7 @@ use Rattle.mesh_model.specs.Fields.Induct.{with_faces}
 use Rattle.mesh_model.specs.Geometry.Limits.{IsShape}
 use Rattle.mesh_model.specs.Tree.Kinds.{Grid, is_leaf, is_leaf_block, is_leaf_edge, is_leaf_face}
 use Rattle.mesh_model.specs.Fields.Plain.{marked, Mesh, on_cells, on_faces}
-use Rattle.mesh_model.specs.Geometry.Canonical.{is_canonical, is_canonical_at, is_canonical_edge, named_edge, named_face, named_on}
+use Rattle.mesh_model.specs.Geometry.Canonical.{is_canonical, is_canonical_at, is_canonical_edge, canonical_edge, canonical_face, canonical_on}
 use Rattle.mesh_model.specs.Fields.RangeWalk.{first_excess}
 use Rattle.mesh_model.specs.Tree.Regrown.{new_grid}
 use Rattle.mesh_model.specs.Fields.Regrid.{regrid}
@@ -155,23 +156,18 @@ own_place s a l p h = by_kind (is_periodic s a) h
     by_kind false h = refl
     by_kind true h = let below = ltb-true p (extent s a l) h in rw (ne_eqb p (extent s a l) (λ e. absurd (omega (arith, e, below)))) refl
 
-with_own : (a : Axis) (p : ℕ) (c : CellAt) → p ≡ on a c → with a p c ≡ c
-with_own X p c h = λ i. record { level = c.level; x = h i; y = c.y; z = c.z }
-with_own Y p c h = λ i. record { level = c.level; x = c.x; y = h i; z = c.z }
-with_own Z p c h = λ i. record { level = c.level; x = c.x; y = c.y; z = h i }
+own_name : (s : Shape) (a : Axis) (c : CellAt) → is_canonical_at s a c.level (on a c) ≡ true → canonical_on s a c ≡ c
+own_name s a c h = with_same a _ c (own_place s a c.level (on a c) h)
 
-own_name : (s : Shape) (a : Axis) (c : CellAt) → is_canonical_at s a c.level (on a c) ≡ true → named_on s a c ≡ c
-own_name s a c h = with_own a _ c (own_place s a c.level (on a c) h)
+face_as_is : (s : Shape) (f : FaceAt) → is_canonical s f ≡ true → canonical_face s f ≡ f
+face_as_is s f h = ap (face_of f.axis) (own_name s f.axis (face_numbers f) h)
 
-named_as_is : (s : Shape) (f : FaceAt) → is_canonical s f ≡ true → named_face s f ≡ f
-named_as_is s f h = ap (face_of f.axis) (own_name s f.axis (face_numbers f) h)
-
-edge_as_is : (s : Shape) (e : EdgeAt) → is_canonical_edge s e ≡ true → named_edge s e ≡ e
+edge_as_is : (s : Shape) (e : EdgeAt) → is_canonical_edge s e ≡ true → canonical_edge s e ≡ e
 edge_as_is s e h =
     let both = and_parts _ _ h in
     let b = next e.axis in
     let inner = own_name s (next b) (edge_numbers e) both.1 in
-    ap (edge_of e.axis) (ap (named_on s b) inner ∙ own_name s b (edge_numbers e) both.0)
+    ap (edge_of e.axis) (ap (canonical_on s b) inner ∙ own_name s b (edge_numbers e) both.0)
 
 -- ---- one number set
 
@@ -187,7 +183,7 @@ set_face_valid m at value valid there here small = record {
   nodes = valid.nodes;
   numbers = record {
     cells = valid.numbers.cells;
-    faces = λ f off. set_or_old (is_same_face f (named_face m.grid.shape at)) value (m.faces f) (other f off) (valid.numbers.faces f off);
+    faces = λ f off. set_or_old (is_same_face f (canonical_face m.grid.shape at)) value (m.faces f) (other f off) (valid.numbers.faces f off);
     edges = valid.numbers.edges;
   };
   declared = record {
@@ -200,7 +196,7 @@ set_face_valid m at value valid there here small = record {
   range = record {
     cells = valid.range.cells;
     outs = valid.range.outs;
-    faces = λ f. in_box_within (is_same_face f (named_face m.grid.shape at)) value (m.faces f) small (valid.range.faces f);
+    faces = λ f. in_box_within (is_same_face f (canonical_face m.grid.shape at)) value (m.faces f) small (valid.range.faces f);
     edges = valid.range.edges;
   };
   marks = record { refine = valid.marks.refine; derefine = valid.marks.derefine };
@@ -210,10 +206,10 @@ set_face_valid m at value valid there here small = record {
     some_not None t h = cc
     some_not (Some x) t h = cc
 
-    other : (f : FaceAt) → (is_canonical m.grid.shape f && is_leaf_face m.grid f) ≡ false → is_same_face f (named_face m.grid.shape at) ≡ false
-    other f off = elim (cases_Bool (is_same_face f (named_face m.grid.shape at))) [
+    other : (f : FaceAt) → (is_canonical m.grid.shape f && is_leaf_face m.grid f) ≡ false → is_same_face f (canonical_face m.grid.shape at) ≡ false
+    other f off = elim (cases_Bool (is_same_face f (canonical_face m.grid.shape at))) [
       | inl t ↦
-          let same : f ≡ at = same_face f (named_face m.grid.shape at) t ∙ named_as_is m.grid.shape at (and_parts _ _ here).0 in
+          let same : f ≡ at = same_face f (canonical_face m.grid.shape at) t ∙ face_as_is m.grid.shape at (and_parts _ _ here).0 in
           let on : (is_canonical m.grid.shape f && is_leaf_face m.grid f) ≡ true = subst (λ h. (is_canonical m.grid.shape h && is_leaf_face m.grid h) ≡ true) (sym same) here in
           absurd (cc)
       | inr n ↦ n
@@ -228,7 +224,7 @@ set_edge_valid m at value valid there here small = record {
   numbers = record {
     cells = valid.numbers.cells;
     faces = valid.numbers.faces;
-    edges = λ e off. set_or_old (is_same_edge e (named_edge m.grid.shape at)) value (m.edges e) (other e off) (valid.numbers.edges e off);
+    edges = λ e off. set_or_old (is_same_edge e (canonical_edge m.grid.shape at)) value (m.edges e) (other e off) (valid.numbers.edges e off);
   };
   declared = record {
     few = valid.declared.few;
@@ -241,7 +237,7 @@ set_edge_valid m at value valid there here small = record {
     cells = valid.range.cells;
     outs = valid.range.outs;
     faces = valid.range.faces;
-    edges = λ e. in_box_within (is_same_edge e (named_edge m.grid.shape at)) value (m.edges e) small (valid.range.edges e);
+    edges = λ e. in_box_within (is_same_edge e (canonical_edge m.grid.shape at)) value (m.edges e) small (valid.range.edges e);
   };
   marks = record { refine = valid.marks.refine; derefine = valid.marks.derefine };
 }
@@ -250,10 +246,10 @@ set_edge_valid m at value valid there here small = record {
     some_not None t h = cc
     some_not (Some x) t h = cc
 
-    other : (e : EdgeAt) → (is_canonical_edge m.grid.shape e && is_leaf_edge m.grid e) ≡ false → is_same_edge e (named_edge m.grid.shape at) ≡ false
-    other e off = elim (cases_Bool (is_same_edge e (named_edge m.grid.shape at))) [
+    other : (e : EdgeAt) → (is_canonical_edge m.grid.shape e && is_leaf_edge m.grid e) ≡ false → is_same_edge e (canonical_edge m.grid.shape at) ≡ false
+    other e off = elim (cases_Bool (is_same_edge e (canonical_edge m.grid.shape at))) [
       | inl t ↦
-          let same : e ≡ at = same_edge e (named_edge m.grid.shape at) t ∙ edge_as_is m.grid.shape at (and_parts _ _ here).0 in
+          let same : e ≡ at = same_edge e (canonical_edge m.grid.shape at) t ∙ edge_as_is m.grid.shape at (and_parts _ _ here).0 in
           let on : (is_canonical_edge m.grid.shape e && is_leaf_edge m.grid e) ≡ true = subst (λ h. (is_canonical_edge m.grid.shape h && is_leaf_edge m.grid h) ≡ true) (sym same) here in
           absurd (cc)
       | inr n ↦ n

@@ -24,7 +24,7 @@ begun_other l c f = rw (f, begun_at) refl
 
 -- ---- each node is a leaf or an ancestor of one
 
-begun_in : (l : ℕ) (c b : BlockAt) → c.level ≡ l → IsIn b (begun_at l c) → LiesIn c b
+pub begun_in : (l : ℕ) (c b : BlockAt) → c.level ≡ l → IsIn b (begun_at l c) → LiesIn c b
 unfolding begun_at
 begun_in zero c b e (inl same) = subst (λ u. LiesIn c u) same (lies_refl c)
 begun_in zero c b e (inr none) = absurd none

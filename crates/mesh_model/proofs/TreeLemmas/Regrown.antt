@@ -6,7 +6,7 @@ use Rattle.std.proofs.Math.Pow.{pow-add}
 use Rattle.amr_num.specs.declared.BlockAt.{BlockAt}
 use Rattle.mesh_model.specs.Tree.Kinds.{Grid}
 use Rattle.mesh_model.specs.Geometry.Blocks.{child_block, parent_block, children, LiesIn, InDomain}
-use Rattle.mesh_model.specs.Tree.Regrown.{in_place, regrown}
+use Rattle.mesh_model.specs.Tree.Regrown.{leaves_for, regrown}
 use Rattle.mesh_model.specs.Tree.Order.{IsIn}
 use Rattle.mesh_model.specs.Tree.ValidGrid.{Tiles}
 use Rattle.mesh_model.proofs.TreeLemmas.Tests.{refuted, and_left, and_right, and_both, in_flat, from_flat}
@@ -45,16 +45,16 @@ module _ (refine merge : BlockAt → Bool) where
   unfoldable pub takes_back : BlockAt → Bool
   takes_back b = nat_lt 0 b.level && merge (parent_block b)
 
-  pub place_refined : (b : BlockAt) → refine b ≡ true → in_place refine merge b ≡ children b
-  place_refined b h = rw (h, in_place) refl
+  pub place_refined : (b : BlockAt) → refine b ≡ true → leaves_for refine merge b ≡ children b
+  place_refined b h = rw (h, leaves_for) refl
 
-  pub place_merged : (b : BlockAt) → refine b ≡ false → takes_back b ≡ true → in_place refine merge b ≡ (if (b.x % 2 == 0) && (b.y % 2 == 0) && (b.z % 2 == 0) then parent_block b ∷ [] else [])
+  pub place_merged : (b : BlockAt) → refine b ≡ false → takes_back b ≡ true → leaves_for refine merge b ≡ (if (b.x % 2 == 0) && (b.y % 2 == 0) && (b.z % 2 == 0) then parent_block b ∷ [] else [])
   unfolding takes_back
-  place_merged b h t = rw (h, in_place) (rw t refl)
+  place_merged b h t = rw (h, leaves_for) (rw t refl)
 
-  pub place_kept : (b : BlockAt) → refine b ≡ false → takes_back b ≡ false → in_place refine merge b ≡ b ∷ []
+  pub place_kept : (b : BlockAt) → refine b ≡ false → takes_back b ≡ false → leaves_for refine merge b ≡ b ∷ []
   unfolding takes_back
-  place_kept b h t = rw (h, in_place) (rw t refl)
+  place_kept b h t = rw (h, leaves_for) (rw t refl)
 
   pub alone_test : (b : BlockAt) → (0 < b.level → merge (parent_block b) ≡ false) → takes_back b ≡ false
   unfolding takes_back
@@ -87,7 +87,7 @@ module _ (refine merge : BlockAt → Bool) where
   from_if true n p (inr e) = absurd e
   from_if false n p e = absurd e
 
-  pub from_place : (n b : BlockAt) → IsIn n (in_place refine merge b) → FromRefined n b ⊎ (FromMerged n b ⊎ Kept n b)
+  pub from_place : (n b : BlockAt) → IsIn n (leaves_for refine merge b) → FromRefined n b ⊎ (FromMerged n b ⊎ Kept n b)
   unfolding takes_back
   from_place n b i = elim (cases_Bool (refine b)) [
     | inl t ↦ let c = from_children b n (subst (λ u. IsIn n u) (place_refined b t) i) in inl (record { refined = t; octant = c.0; below = c.1; child = c.2 })
@@ -114,26 +114,26 @@ module _ (refine merge : BlockAt → Bool) where
   even_zero : (n : ℕ) → ((2 * n + 0) % 2 == 0) ≡ true
   even_zero n = eq-eqb _ _ (omega arith)
 
-  first_takes : (p : BlockAt) → merge p ≡ true → refine (child_block p 0) ≡ false → IsIn p (in_place refine merge (child_block p 0))
+  first_takes : (p : BlockAt) → merge p ≡ true → refine (child_block p 0) ≡ false → IsIn p (leaves_for refine merge (child_block p 0))
   first_takes p h s =
       let test : (((child_block p 0).x % 2 == 0) && ((child_block p 0).y % 2 == 0) && ((child_block p 0).z % 2 == 0)) ≡ true = and_both ((((child_block p 0).x % 2 == 0)) && ((child_block p 0).y % 2 == 0)) ((child_block p 0).z % 2 == 0) (and_both ((child_block p 0).x % 2 == 0) ((child_block p 0).y % 2 == 0) (even_zero p.x) (even_zero p.y)) (even_zero p.z) in
-      let at : in_place refine merge (child_block p 0) ≡ (parent_block (child_block p 0) ∷ []) = place_merged (child_block p 0) s (takes p 0 h) ∙ ap (λ z. if z then parent_block (child_block p 0) ∷ [] else []) test in
+      let at : leaves_for refine merge (child_block p 0) ≡ (parent_block (child_block p 0) ∷ []) = place_merged (child_block p 0) s (takes p 0 h) ∙ ap (λ z. if z then parent_block (child_block p 0) ∷ [] else []) test in
       subst (λ u. IsIn p u) (sym at) (inl (parent_of_child p 0))
 
   module _ (g : Grid) where
     -- what is among the new leaves
     pub new_child : (b : BlockAt) (q : ℕ) → IsIn b g.leaves → refine b ≡ true → q < 8 → IsIn (child_block b q) (regrown g refine merge).leaves
-    new_child b q i h l = in_flat (in_place refine merge) (child_block b q) b g.leaves i (subst (λ u. IsIn (child_block b q) u) (sym (place_refined b h)) (in_children b q l))
+    new_child b q i h l = in_flat (leaves_for refine merge) (child_block b q) b g.leaves i (subst (λ u. IsIn (child_block b q) u) (sym (place_refined b h)) (in_children b q l))
 
     pub new_kept : (b : BlockAt) → IsIn b g.leaves → refine b ≡ false → takes_back b ≡ false → IsIn b (regrown g refine merge).leaves
-    new_kept b i h t = in_flat (in_place refine merge) b b g.leaves i (subst (λ u. IsIn b u) (sym (place_kept b h t)) (inl refl))
+    new_kept b i h t = in_flat (leaves_for refine merge) b b g.leaves i (subst (λ u. IsIn b u) (sym (place_kept b h t)) (inl refl))
 
     pub new_source : (n : BlockAt) → IsIn n (regrown g refine merge).leaves → (b : BlockAt) × IsIn b g.leaves × (FromRefined n b ⊎ (FromMerged n b ⊎ Kept n b))
-    new_source n i = let from = from_flat (in_place refine merge) n g.leaves i in (from.0, from.1, from_place n from.0 from.2)
+    new_source n i = let from = from_flat (leaves_for refine merge) n g.leaves i in (from.0, from.1, from_place n from.0 from.2)
 
   module _ (g : Grid) (fit : Fit g) where
     pub new_parent : (p : BlockAt) → merge p ≡ true → IsIn p (regrown g refine merge).leaves
-    new_parent p h = in_flat (in_place refine merge) p (child_block p 0) g.leaves (fit.leaf p h 0 (omega arith)) (first_takes p h (fit.stays p h 0 (omega arith)))
+    new_parent p h = in_flat (leaves_for refine merge) p (child_block p 0) g.leaves (fit.leaf p h 0 (omega arith)) (first_takes p h (fit.stays p h 0 (omega arith)))
 
     -- the level of the new leaf in the place of an old one
     new_level : BlockAt → ℕ

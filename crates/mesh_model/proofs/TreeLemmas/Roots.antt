@@ -175,8 +175,3 @@ row_of (suc (suc (suc (suc (suc (suc zero)))))) l h = refl
 row_of (suc (suc (suc (suc (suc (suc (suc zero))))))) l h = refl
 row_of (suc (suc (suc (suc (suc (suc (suc (suc zero)))))))) l h = refl
 row_of (suc (suc (suc (suc (suc (suc (suc (suc (suc n))))))))) l h = absurd (omega arith)
-
--- where the domain is a row of roots, the leaves at the start are these roots in a row
-pub start_row : (s : Shape) → s.ry ≡ 1 → s.rz ≡ 1 → 0 < s.rx → s.rx ≤ 8 → start_leaves s ≡ map root_of_row (range_with_len 0 s.rx)
-unfolding start_leaves roots_in
-start_row s y z l h = ap₂ (λ ry rz. roots_in s.rx ry rz) y z ∙ row_of s.rx l h

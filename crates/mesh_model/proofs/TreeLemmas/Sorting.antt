@@ -9,7 +9,7 @@ use Rattle.amr_num.specs.declared.BlockAt.{BlockAt}
 use Rattle.mesh_model.specs.Tree.Kinds.{Grid}
 use Rattle.mesh_model.specs.Tree.MarkedGrid.{MarkedGrid, ValidMarkedGrid}
 use Rattle.mesh_model.specs.Geometry.Blocks.{child_block, parent_block, children, LiesIn}
-use Rattle.mesh_model.specs.Tree.Regrown.{in_place, regrown, new_grid}
+use Rattle.mesh_model.specs.Tree.Regrown.{leaves_for, regrown, new_grid}
 use Rattle.mesh_model.specs.Tree.Closure.{is_refined, is_merged}
 use Rattle.mesh_model.specs.Geometry.Touch.{low_end}
 use Rattle.mesh_model.specs.Tree.Order.{IsIn, interleave, morton, key, Sorted}
@@ -177,14 +177,20 @@ from_octants b c (n ∷ ns) low r (inr i) =
     let lt = rest.1 in
     (rest.0, omega arith, rest.2, rest.3)
 
-later_child : (b : BlockAt) (q r : ℕ) → b.level < 10 → q < r → r < 8 → key (child_block b q) < key (child_block b r)
-unfolding key
-later_child b q r h lt l =
+-- each child's stretch ends where the next child's begins, or before
+pub next_stretch : (b : BlockAt) (q r : ℕ) → b.level < 10 → q < r → r < 8 → morton (child_block b q) + span (suc b.level) ≤ morton (child_block b r)
+next_stretch b q r h lt top =
     let one = morton_child b q h (omega arith) in
-    let two = morton_child b r h l in
-    let wide = span_pos (suc b.level) in
+    let two = morton_child b r h top in
     let row = one_more q (span (suc b.level)) in
     let le = mul-le-mul_right {m = suc q} {n = r} (span (suc b.level)) lt in
+    omega arith
+
+pub later_child : (b : BlockAt) (q r : ℕ) → b.level < 10 → q < r → r < 8 → key (child_block b q) < key (child_block b r)
+unfolding key
+later_child b q r h lt top =
+    let next = next_stretch b q r h lt top in
+    let wide = span_pos (suc b.level) in
     omega arith
 
 sorted_octants : (b : BlockAt) (ns : List ℕ) (low : ℕ) → b.level < 10 → Rising low ns → Sorted (map (child_block b) ns)
@@ -202,7 +208,7 @@ sorted_if true b = (λ c i. absurd i, tt)
 sorted_if false b = tt
 
 module _ (g : Grid) (valid : Valid g) (refine merge : BlockAt → Bool) (fits : Fit refine merge g) where
-  place_sorted : (b : BlockAt) → IsIn b g.leaves → Sorted (in_place refine merge b)
+  place_sorted : (b : BlockAt) → IsIn b g.leaves → Sorted (leaves_for refine merge b)
   place_sorted b i = elim (cases_Bool (refine b)) [
     | inl t ↦
         let deep = fits.deep b i t in
@@ -226,7 +232,7 @@ module _ (g : Grid) (valid : Valid g) (refine merge : BlockAt → Bool) (fits : 
       λ i. record { level = lv i; x = xs i; y = ys i; z = zs i }
 
   -- what stands in b's place begins in b
-  place_begins : (n b : BlockAt) → IsIn b g.leaves → IsIn n (in_place refine merge b) → (morton b ≤ morton n) × (morton n < morton b + span b.level)
+  place_begins : (n b : BlockAt) → IsIn b g.leaves → IsIn n (leaves_for refine merge b) → (morton b ≤ morton n) × (morton n < morton b + span b.level)
   place_begins n b i j =
       let top = valid.shape.max in
       let room = (valid.tiles.inside b i).level in
@@ -246,7 +252,7 @@ module _ (g : Grid) (valid : Valid g) (refine merge : BlockAt → Bool) (fits : 
         | inr (inr k) ↦ let number = ap morton (sym k.same) in (omega arith, omega arith)
       ]
 
-  across : (b c n o : BlockAt) → IsIn b g.leaves → IsIn c g.leaves → key b < key c → IsIn n (in_place refine merge b) → IsIn o (in_place refine merge c) → key n < key o
+  across : (b c n o : BlockAt) → IsIn b g.leaves → IsIn c g.leaves → key b < key c → IsIn n (leaves_for refine merge b) → IsIn o (leaves_for refine merge c) → key n < key o
   unfolding key
   across b c n o i j h in_b in_c =
       let top = valid.shape.max in
@@ -255,11 +261,11 @@ module _ (g : Grid) (valid : Valid g) (refine merge : BlockAt → Bool) (fits : 
       let two = place_begins o c j in_c in
       let end = one.1 in
       let start = two.0 in
-      let room = (regrown_inside refine merge g fits valid.tiles n (in_flat (in_place refine merge) n b g.leaves i in_b)).level in
+      let room = (regrown_inside refine merge g fits valid.tiles n (in_flat (leaves_for refine merge) n b g.leaves i in_b)).level in
       omega arith
 
   pub regrown_sorted : Sorted g.leaves → Sorted (regrown g refine merge).leaves
-  regrown_sorted s = sorted_flat (in_place refine merge) g.leaves s place_sorted across
+  regrown_sorted s = sorted_flat (leaves_for refine merge) g.leaves s place_sorted across
 
 -- the leaves of the new grid stand in Morton order, as the old ones do
 pub new_grid_sorted : (m : MarkedGrid) → ValidMarkedGrid m → Sorted (new_grid m).leaves

@@ -9,7 +9,7 @@ use Rattle.amr_num.specs.declared.Axis.TheVariants.{X, Y, Z}
 use Rattle.amr_num.specs.declared.BlockAt.{BlockAt}
 use Rattle.mesh_model.specs.declared.geometry.Shape.{Shape}
 use Rattle.mesh_model.specs.Geometry.Coordinates.{is_periodic, roots}
-use Rattle.mesh_model.specs.Geometry.Touch.{low_end, high_end, stretches_meet, touches, meet_on, place}
+use Rattle.mesh_model.specs.Geometry.Touch.{low_end, high_end, stretches_meet, touches, meet_on, block_on}
 use Rattle.mesh_model.specs.Geometry.Blocks.{child_block, LiesIn}
 use Rattle.mesh_model.proofs.TreeLemmas.Tests.{all_three, and_left, and_right, and_both, either_true, or_left, or_right}
 
@@ -107,7 +107,7 @@ high_second l x h = let e : 10 - l ≡ suc (10 - suc l) = omega arith in rw e (g
 -- ---- blocks
 
 pub record Touch (s : Shape) (a b : BlockAt) : Type 0 where
-  pub on : (axis : Axis) → Meet (is_periodic s axis) (roots s axis * 2 ^ 10) (low_end a.level (place axis a)) (high_end a.level (place axis a)) (low_end b.level (place axis b)) (high_end b.level (place axis b))
+  pub on : (axis : Axis) → Meet (is_periodic s axis) (roots s axis * 2 ^ 10) (low_end a.level (block_on axis a)) (high_end a.level (block_on axis a)) (low_end b.level (block_on axis b)) (high_end b.level (block_on axis b))
 
 each_axis : (s : Shape) (a b : BlockAt) → touches s a b ≡ true → (axis : Axis) → meet_on s a b axis ≡ true
 unfolding touches
@@ -125,7 +125,7 @@ touch_shows s a b h = and_both (meet_on s a b X && meet_on s a b Y) (meet_on s a
 pub touch_swap : (s : Shape) (a b : BlockAt) → Touch s a b → Touch s b a
 touch_swap s a b h = record { on = λ axis. meet_swap _ _ _ _ _ _ (h.on axis) }
 
-lies_on : (b a : BlockAt) (axis : Axis) → LiesIn b a → place axis b / 2 ^ (b.level - a.level) ≡ place axis a
+lies_on : (b a : BlockAt) (axis : Axis) → LiesIn b a → block_on axis b / 2 ^ (b.level - a.level) ≡ block_on axis a
 lies_on b a X h = h.x
 lies_on b a Y h = h.y
 lies_on b a Z h = h.z
@@ -133,7 +133,7 @@ lies_on b a Z h = h.z
 -- what touches a block touches the blocks round it
 pub touch_up : (s : Shape) (a b c : BlockAt) → Touch s a b → LiesIn b c → b.level ≤ 10 → Touch s a c
 touch_up s a b c t i h = record {
-  on = λ axis. meet_wider _ _ _ _ _ _ _ _ _ _ (omega arith) (omega arith) (low_within c.level (place axis c) b.level (place axis b) i.level h (lies_on b c axis i)) (high_within c.level (place axis c) b.level (place axis b) i.level h (lies_on b c axis i)) (t.on axis);
+  on = λ axis. meet_wider _ _ _ _ _ _ _ _ _ _ (omega arith) (omega arith) (low_within c.level (block_on axis c) b.level (block_on axis b) i.level h (lies_on b c axis i)) (high_within c.level (block_on axis c) b.level (block_on axis b) i.level h (lies_on b c axis i)) (t.on axis);
 }
 
 -- ---- children
@@ -148,7 +148,7 @@ pick p e a a' l x h le t = elim (meet_half p e a a' (low_end l x) (low_end (suc 
   | inr u ↦ (1, omega arith, rw (high_second l x h) u)
 ]
 
-place_child : (b : BlockAt) (half : Axis → ℕ) (axis : Axis) → place axis (child_on b half) ≡ 2 * place axis b + half axis
+place_child : (b : BlockAt) (half : Axis → ℕ) (axis : Axis) → block_on axis (child_on b half) ≡ 2 * block_on axis b + half axis
 unfolding child_on
 place_child b half X = refl
 place_child b half Y = refl
@@ -166,13 +166,10 @@ octant_child b half p q r =
 pub touch_child : (s : Shape) (a b : BlockAt) → b.level < 10 → Touch s a b → (q : ℕ) × (q < 8) × Touch s a (child_block b q)
 unfolding child_on
 touch_child s a b h t =
-    let at : (axis : Axis) → (j : ℕ) × (j < 2) × Meet (is_periodic s axis) (roots s axis * 2 ^ 10) (low_end a.level (place axis a)) (high_end a.level (place axis a)) (low_end (suc b.level) (2 * place axis b + j)) (high_end (suc b.level) (2 * place axis b + j)) = λ axis. pick _ _ _ _ b.level (place axis b) h (ends_rise a.level (place axis a)) (t.on axis) in
+    let at : (axis : Axis) → (j : ℕ) × (j < 2) × Meet (is_periodic s axis) (roots s axis * 2 ^ 10) (low_end a.level (block_on axis a)) (high_end a.level (block_on axis a)) (low_end (suc b.level) (2 * block_on axis b + j)) (high_end (suc b.level) (2 * block_on axis b + j)) = λ axis. pick _ _ _ _ b.level (block_on axis b) h (ends_rise a.level (block_on axis a)) (t.on axis) in
     let half = λ (axis : Axis). (at axis).0 in
     let p = (at X).1 in
     let q = (at Y).1 in
     let r = (at Z).1 in
-    let touch : Touch s a (child_on b half) = record { on = λ axis. subst (λ n. Meet (is_periodic s axis) (roots s axis * 2 ^ 10) (low_end a.level (place axis a)) (high_end a.level (place axis a)) (low_end (suc b.level) n) (high_end (suc b.level) n)) (sym (place_child b half axis)) (at axis).2 } in
+    let touch : Touch s a (child_on b half) = record { on = λ axis. subst (λ n. Meet (is_periodic s axis) (roots s axis * 2 ^ 10) (low_end a.level (block_on axis a)) (high_end a.level (block_on axis a)) (low_end (suc b.level) n) (high_end (suc b.level) n)) (sym (place_child b half axis)) (at axis).2 } in
     (half X + 2 * half Y + 4 * half Z, omega arith, subst (λ c. Touch s a c) (octant_child b half p q r) touch)
-
-pub touch_refl : (s : Shape) (a : BlockAt) → Touch s a a
-touch_refl s a = record { on = λ axis. inl (ends_rise _ _, ends_rise _ _) }

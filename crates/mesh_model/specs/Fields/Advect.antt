@@ -2,7 +2,7 @@
 --
 -- Speeds count in 2^-20 of the coarsest cell a step. The flux through a leaf face is what its speed carries of the donor's view.
 -- A leaf cell loses high minus low of its fluxes, where a face with a split side has the sum of its subfaces' fluxes.
-use Rattle.std.specs.Prelude.{ℕ, zero, suc, ◌+◌, ◌-◌, ◌*◌, ◌^◌, Bool, true, false, not, ◌&&◌, ◌||◌, ◌==◌, nat_lt, if◌then◌else◌, ℤ, pos, negsuc, ◌+ℤ◌, ◌-ℤ◌, ◌≤◌, unsigned_abs, List, slice_index_or}
+use Rattle.std.specs.Prelude.{nat_le, ℕ, zero, suc, ◌+◌, ◌-◌, ◌*◌, ◌^◌, Bool, true, false, not, ◌&&◌, ◌||◌, ◌==◌, nat_lt, if◌then◌else◌, ℤ, pos, negsuc, ◌+ℤ◌, ◌-ℤ◌, ◌≤◌, unsigned_abs, List, slice_index_or}
 use Rattle.amr_num.specs.declared.Axis.{Axis}
 use Rattle.amr_num.specs.declared.SideKind.{SideKind}
 use Rattle.amr_num.specs.declared.CellAt.{CellAt}
@@ -64,8 +64,8 @@ speed n Y = n.y
 speed n Z = n.z
 
 -- the Courant limit: the speeds together move at most one finest cell a step
-abbrev pub Courant : Shape → Speeds → Type 0
-Courant s n = (unsigned_abs n.x + unsigned_abs n.y + unsigned_abs n.z) * 2 ^ s.max ≤ 2 ^ 20
+unfoldable pub keeps_courant : Shape → Speeds → Bool
+keeps_courant s n = nat_le ((unsigned_abs n.x + unsigned_abs n.y + unsigned_abs n.z) * 2 ^ s.max) (2 ^ 20)
 
 -- the flux through a leaf face: what is carried of the donor's view, and 0 on a closed side
 abbrev pub leaf_flux : Grid → (CellAt → ℤ) → Speeds → FaceAt → ℤ

@@ -20,8 +20,8 @@ edge_on_closed_side s e = is_closed_at s (next e.axis) e.level (on (next e.axis)
 
 -- the number of a leaf edge along a, with b and c the next axes: what the speed on c carries of the face normal to b upstream on c, less
 -- what the speed on b carries of the face normal to c upstream on b; 0 on a closed side
-unfoldable pub leaf_emf : Grid → (FaceAt → ℤ) → Speeds → EdgeAt → ℤ
-leaf_emf g faces n e =
+unfoldable pub leaf_electromotive_force : Grid → (FaceAt → ℤ) → Speeds → EdgeAt → ℤ
+leaf_electromotive_force g faces n e =
     let b = next e.axis in
     let c = next b in
     let face_b = face_view g faces (face_of b (blown_from g.shape c (speed n c) (edge_numbers e))) in
@@ -30,8 +30,8 @@ leaf_emf g faces n e =
     else carry (speed n c) e.level face_b -ℤ carry (speed n b) e.level face_c
 
 -- the views of these edge numbers
-abbrev pub emf : Grid → (FaceAt → ℤ) → Speeds → EdgeAt → ℤ
-emf g faces n = edge_view g (leaf_emf g faces n)
+abbrev pub electromotive_force : Grid → (FaceAt → ℤ) → Speeds → EdgeAt → ℤ
+electromotive_force g faces n = edge_view g (leaf_electromotive_force g faces n)
 
 -- each leaf face loses the circulation of the edge views round it
 abbrev pub less_circulation : Grid → (FaceAt → ℤ) → (EdgeAt → ℤ) → FaceAt → ℤ
@@ -39,7 +39,7 @@ less_circulation g faces views = on_faces g (λ f. faces f -ℤ circulation g vi
 
 -- the face variable after induct
 abbrev pub inducted : Grid → (FaceAt → ℤ) → Speeds → FaceAt → ℤ
-inducted g faces n = less_circulation g faces (emf g faces n)
+inducted g faces n = less_circulation g faces (electromotive_force g faces n)
 
 -- the face variable after curl: on each leaf face the circulation of the edge variable's views
 abbrev pub curled : Grid → (EdgeAt → ℤ) → FaceAt → ℤ

@@ -26,7 +26,7 @@ use Rattle.mesh_model.specs.Fields.Totals.{level_sum, leaf_sum, total}
 use Rattle.mesh_model.specs.Tree.Closure.{is_refined, is_merged}
 use Rattle.mesh_model.specs.Tree.Regrown.{regrown, new_grid}
 use Rattle.mesh_model.specs.Fields.Regrid.{regrid}
-use Rattle.mesh_model.specs.Fields.Advect.{Speeds, Courant, blown_from, flux, on_outer, outflow, advect}
+use Rattle.mesh_model.specs.Fields.Advect.{Speeds, keeps_courant, blown_from, flux, on_outer, outflow, advect}
 use Rattle.mesh_model.specs.Fields.Induct.{with_faces, less_circulation, induct, curl, uniform}
 use Rattle.mesh_model.specs.Fields.Start.{start_mesh}
 use Rattle.mesh_model.specs.Fields.RangeWalk.{first_excess}
@@ -213,7 +213,7 @@ AdvectConserves = (m : Mesh) (var : ℕ) (n : Speeds) (v : ℕ) → ValidMesh m 
 
 -- under the Courant limit no content becomes negative where none was
 abbrev pub AdvectStaysPositive : Type 0
-AdvectStaysPositive = (m : Mesh) (var : ℕ) (n : Speeds) (v : ℕ) → ValidMesh m → Courant m.grid.shape n → ((c : CellAt) → is_leaf m.grid c ≡ true → pos 0 ≤ℤ m.cells v c) →
+AdvectStaysPositive = (m : Mesh) (var : ℕ) (n : Speeds) (v : ℕ) → ValidMesh m → keeps_courant m.grid.shape n ≡ true → ((c : CellAt) → is_leaf m.grid c ≡ true → pos 0 ≤ℤ m.cells v c) →
     (c : CellAt) → pos 0 ≤ℤ (advect m var n).cells v c
 
 -- a valid mesh is valid after the advect of one of its variables, where the numbers stay in range

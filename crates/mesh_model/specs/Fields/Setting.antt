@@ -10,14 +10,14 @@ use Rattle.mesh_model.specs.Fields.Induct.{with_faces}
 use Rattle.mesh_model.specs.Fields.Plain.{Mesh}
 use Rattle.mesh_model.specs.Tree.Kinds.{is_leaf_block}
 use Rattle.mesh_model.specs.Geometry.Places.{in_block, places}
-use Rattle.mesh_model.specs.Geometry.Canonical.{named_edge, named_face}
+use Rattle.mesh_model.specs.Geometry.Canonical.{canonical_edge, canonical_face}
 use Rattle.mesh_model.specs.Geometry.Blocks.{is_same_block}
 
 -- ---- single faces and edges
 
 -- the mesh with another number of one leaf face, or of one leaf edge
 unfoldable pub set_face : Mesh → FaceAt → ℤ → Mesh
-set_face m at value = with_faces m (λ f. if is_same_face f (named_face m.grid.shape at) then value else m.faces f)
+set_face m at value = with_faces m (λ f. if is_same_face f (canonical_face m.grid.shape at) then value else m.faces f)
 
 unfoldable pub set_edge : Mesh → EdgeAt → ℤ → Mesh
 set_edge m at value = record {
@@ -26,7 +26,7 @@ set_edge m at value = record {
   cells = m.cells;
   outs = m.outs;
   faces = m.faces;
-  edges = λ e. if is_same_edge e (named_edge m.grid.shape at) then value else m.edges e;
+  edges = λ e. if is_same_edge e (canonical_edge m.grid.shape at) then value else m.edges e;
   refine = m.refine;
   derefine = m.derefine;
 }

@@ -84,8 +84,8 @@ face_down g number (suc d) f = elim (is_split_face g f) [
 ]
 
 -- the view of a face by its first three cases, with the views of the level above: a split face, a leaf face, a face at an even position
-unfoldable pub side_view : Grid → (FaceAt → ℤ) → (FaceAt → ℤ) → FaceAt → ℤ
-side_view g number above f = elim (is_split_face g f) [
+unfoldable pub outer_face_view : Grid → (FaceAt → ℤ) → (FaceAt → ℤ) → FaceAt → ℤ
+outer_face_view g number above f = elim (is_split_face g f) [
   | true ↦ face_down g number (10 - f.level) f
   | false ↦ elim (is_leaf_face g f) [
     | true ↦ number f
@@ -101,8 +101,8 @@ face_view_at g number zero f = elim (is_split_face g f) [
   | false ↦ number f
 ]
 face_view_at g number (suc l) f = elim (is_split_face g f || is_leaf_face g f || is_even (on f.axis (face_numbers f))) [
-  | true ↦ side_view g number (face_view_at g number l) f
-  | false ↦ inner_face (sides_of g (side_view g number (face_view_at g number l)) (face_numbers (parent_face f))) f.axis (f.x % 2) (f.y % 2) (f.z % 2)
+  | true ↦ outer_face_view g number (face_view_at g number l) f
+  | false ↦ inner_face (sides_of g (outer_face_view g number (face_view_at g number l)) (face_numbers (parent_face f))) f.axis (f.x % 2) (f.y % 2) (f.z % 2)
 ]
 
 abbrev pub face_view : Grid → (FaceAt → ℤ) → FaceAt → ℤ
@@ -136,8 +136,8 @@ edge_down g number (suc d) e = elim (is_split_edge g e) [
 ]
 
 -- the view of an edge by its first three cases, with the views of the level above: a split edge, a leaf edge, an edge at even positions
-unfoldable pub rim_view : Grid → (EdgeAt → ℤ) → (EdgeAt → ℤ) → EdgeAt → ℤ
-rim_view g number above e = elim (is_split_edge g e) [
+unfoldable pub outer_edge_view : Grid → (EdgeAt → ℤ) → (EdgeAt → ℤ) → EdgeAt → ℤ
+outer_edge_view g number above e = elim (is_split_edge g e) [
   | true ↦ edge_down g number (10 - e.level) e
   | false ↦ elim (is_leaf_edge g e) [
     | true ↦ number e
@@ -157,8 +157,8 @@ edge_view_at g number zero e = elim (is_split_edge g e) [
   | false ↦ number e
 ]
 edge_view_at g number (suc l) e = elim (is_split_edge g e || is_leaf_edge g e || is_even_edge e) [
-  | true ↦ rim_view g number (edge_view_at g number l) e
-  | false ↦ floor_div (sum_of (map (λ c. rim_view g number (edge_view_at g number l) (edge_of e.axis c)) (even_round g e))) (length (even_round g e))
+  | true ↦ outer_edge_view g number (edge_view_at g number l) e
+  | false ↦ floor_div (sum_of (map (λ c. outer_edge_view g number (edge_view_at g number l) (edge_of e.axis c)) (even_round g e))) (length (even_round g e))
 ]
 
 abbrev pub edge_view : Grid → (EdgeAt → ℤ) → EdgeAt → ℤ

@@ -20,17 +20,6 @@ is_canonical_edge s e =
     is_canonical_at s (next e.axis) e.level (on (next e.axis) (edge_numbers e))
     && is_canonical_at s (next (next e.axis)) e.level (on (next (next e.axis)) (edge_numbers e))
 
--- a position as it is named on the axis a: beyond a periodic side it is 0
-abbrev pub named_on : Shape → Axis → CellAt → CellAt
-named_on s a c = with a (wrapped (is_periodic s a) (extent s a c.level) (on a c)) c
-
--- the canonical names of a face and of an edge
-abbrev pub named_face : Shape → FaceAt → FaceAt
-named_face s f = face_of f.axis (named_on s f.axis (face_numbers f))
-
-abbrev pub named_edge : Shape → EdgeAt → EdgeAt
-named_edge s e = edge_of e.axis (named_on s (next e.axis) (named_on s (next (next e.axis)) (edge_numbers e)))
-
 -- the canonical name of a position, a face and an edge: on a periodic axis position E is 0
 abbrev pub canonical_on : Shape → Axis → CellAt → CellAt
 canonical_on s a c = with a (wrapped (is_periodic s a) (extent s a c.level) (on a c)) c
@@ -39,4 +28,4 @@ abbrev pub canonical_face : Shape → FaceAt → FaceAt
 canonical_face s f = face_of f.axis (canonical_on s f.axis (face_numbers f))
 
 abbrev pub canonical_edge : Shape → EdgeAt → EdgeAt
-canonical_edge s e = edge_of e.axis (canonical_on s (next (next e.axis)) (canonical_on s (next e.axis) (edge_numbers e)))
+canonical_edge s e = edge_of e.axis (canonical_on s (next e.axis) (canonical_on s (next (next e.axis)) (edge_numbers e)))

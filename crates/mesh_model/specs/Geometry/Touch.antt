@@ -8,10 +8,10 @@ use Rattle.mesh_model.specs.declared.geometry.Shape.{Shape}
 use Rattle.mesh_model.specs.Geometry.Coordinates.{is_periodic, roots}
 
 -- a block's coordinate on an axis
-abbrev pub place : Axis → BlockAt → ℕ
-place X b = b.x
-place Y b = b.y
-place Z b = b.z
+abbrev pub block_on : Axis → BlockAt → ℕ
+block_on X b = b.x
+block_on Y b = b.y
+block_on Z b = b.z
 
 -- where the block at x of level l ends on an axis, in blocks of the finest level 10; it begins at its low end
 unfoldable pub high_end : ℕ → ℕ → ℕ
@@ -24,7 +24,7 @@ stretches_meet periodic e a a' b b' =
 
 -- the boxes of two blocks meet on an axis
 abbrev pub meet_on : Shape → BlockAt → BlockAt → Axis → Bool
-meet_on s a b axis = stretches_meet (is_periodic s axis) (roots s axis * 2 ^ 10) (low_end a.level (place axis a)) (high_end a.level (place axis a)) (low_end b.level (place axis b)) (high_end b.level (place axis b))
+meet_on s a b axis = stretches_meet (is_periodic s axis) (roots s axis * 2 ^ 10) (low_end a.level (block_on axis a)) (high_end a.level (block_on axis a)) (low_end b.level (block_on axis b)) (high_end b.level (block_on axis b))
 
 -- two blocks touch where their closed boxes meet on each axis: in a face, an edge or a corner, or as one block
 unfoldable pub touches : Shape → BlockAt → BlockAt → Bool

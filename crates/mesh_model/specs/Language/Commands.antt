@@ -3,8 +3,6 @@ use Rattle.std.specs.Prelude.{◌≡◌, ℕ, ◌<◌, ◌≤◌, ◌≢◌, ◌
 use Rattle.amr_num.specs.Numbers.{Within}
 use Rattle.amr_num.specs.declared.Axis.{Axis}
 use Rattle.amr_num.specs.declared.BlockAt.{BlockAt}
-use Rattle.amr_num.specs.declared.SideKind.{SideKind}
-use Rattle.amr_num.specs.declared.SideKind.TheVariants.{Periodic}
 use Rattle.mesh_model.specs.declared.geometry.Shape.{Shape}
 use Rattle.mesh_model.specs.declared.language.script.Command.{Command}
 use Rattle.mesh_model.specs.declared.language.script.Command.TheVariants.{FillAll, FillBox, FaceSet, EdgeSet, Uniform, MarkRefine, MarkDerefine, RefineWhere, DerefineWhere, Regrid, Advect, Curl, Induct, Checkpoint, PrintSize, PrintMesh, PrintTree, PrintRanks, PrintTrace, PrintVar, PrintGuards, Total, NetFlux}
@@ -13,6 +11,7 @@ use Rattle.mesh_model.specs.declared.fields.values.Group.{Group}
 use Rattle.mesh_model.specs.declared.fields.values.Group.TheVariants.{Cell, Face, Edge}
 use Rattle.mesh_model.specs.declared.language.script.Line.{Line}
 use Rattle.mesh_model.specs.declared.language.script.Script.{Script}
+use Rattle.mesh_model.specs.Geometry.Limits.{IsShape}
 use Rattle.mesh_model.specs.Geometry.Coordinates.{extent, is_periodic_kind, axis_index}
 use Rattle.mesh_model.specs.Fields.VariableNames.{VariableNames}
 use Rattle.mesh_model.specs.Language.Words.{is_name}
@@ -86,27 +85,6 @@ IsCommandOf d NetFlux = IsSome d.names.face
 abbrev pub IsLineOf : Declared → Line → Type 0
 IsLineOf d line = IsCommandOf d line.command
 
--- both sides of an axis are periodic, or none is
-abbrev pub ArePaired : SideKind → SideKind → Type 0
-ArePaired low high = is_periodic_kind low ≡ is_periodic_kind high
-
--- six sides, paired on each axis
-pub record AreSides (sides : List SideKind) : Type 0 where
-  pub six : length sides ≡ 6
-  pub x : ArePaired (slice_index_or sides 0 Periodic) (slice_index_or sides 1 Periodic)
-  pub y : ArePaired (slice_index_or sides 2 Periodic) (slice_index_or sides 3 Periodic)
-  pub z : ArePaired (slice_index_or sides 4 Periodic) (slice_index_or sides 5 Periodic)
-
--- the shape is within the limits of the language
-pub record IsAcceptedShape (s : Shape) : Type 0 where
-  pub rx : (1 ≤ s.rx) × (s.rx ≤ 8)
-  pub ry : (1 ≤ s.ry) × (s.ry ≤ 8)
-  pub rz : (1 ≤ s.rz) × (s.rz ≤ 8)
-  pub n : (s.n ≡ 4) ⊎ (s.n ≡ 8)
-  pub g : (s.g ≡ 1) ⊎ ((s.g ≡ 2) ⊎ (s.g ≡ 4))
-  pub levels : (s.min ≤ s.max) × (s.max ≤ 10)
-  pub sides : AreSides s.sides
-
 -- at most four cell variables; each name is one
 pub record AreNames (names : VariableNames) : Type 0 where
   pub few : length names.cells ≤ 4
@@ -123,6 +101,6 @@ pub record AreDifferent (names : VariableNames) : Type 0 where
 
 -- the declarations are within the limits of the language
 pub record InLimits (d : Declared) : Type 0 where
-  pub shape : IsAcceptedShape d.shape
+  pub shape : IsShape d.shape
   pub names : AreNames d.names
   pub different : AreDifferent d.names

@@ -93,9 +93,9 @@ AtEachCommand R m [] = Unit {0}
 AtEachCommand R m (line ∷ lines) = R m line.command (mesh_after m line.command) × AtEachCommand R (mesh_after m line.command) lines
 
 -- the mesh after the commands, in order
-abbrev pub mesh_of : Mesh → List Line → Mesh
-mesh_of m [] = m
-mesh_of m (line ∷ lines) = mesh_of (mesh_after m line.command) lines
+abbrev pub mesh_after_all : Mesh → List Line → Mesh
+mesh_after_all m [] = m
+mesh_after_all m (line ∷ lines) = mesh_after_all (mesh_after m line.command) lines
 
 -- ---- up to the first command that is refused
 

@@ -8,7 +8,7 @@ use Rattle.mesh_model.specs.declared.language.script.Command.TheVariants.{FillAl
 use Rattle.mesh_model.specs.declared.run.stops.Refusal.{Refusal}
 use Rattle.mesh_model.specs.declared.run.stops.Refusal.TheVariants.{Range, Courant, Level, Place, PlaceBlock, Blocks}
 use Rattle.mesh_model.specs.declared.fields.spot.Spot.TheVariants.{Face, Edge}
-use Rattle.mesh_model.specs.Fields.Advect.{Speeds, advect, three}
+use Rattle.mesh_model.specs.Fields.Advect.{keeps_courant, Speeds, advect, three}
 use Rattle.mesh_model.specs.Fields.Induct.{curl, induct, uniform}
 use Rattle.mesh_model.specs.Geometry.Limits.{most_nodes}
 use Rattle.mesh_model.specs.Tree.Order.{nodes}
@@ -26,10 +26,6 @@ or_else holds refusal = if holds then None else Some refusal
 -- all numbers of the mesh that would be made are in range, or the first that is not
 abbrev pub range_of : Mesh → Option Refusal
 range_of after = option_map Range (first_excess after)
-
--- the Courant limit: the speeds together move at most one finest cell a step
-unfoldable pub keeps_courant : Shape → Speeds → Bool
-keeps_courant s n = nat_le ((unsigned_abs n.x + unsigned_abs n.y + unsigned_abs n.z) * 2 ^ s.max) (2 ^ 20)
 
 abbrev pub courant_of : Mesh → List ℤ → Option Refusal
 courant_of m speeds = or_else (keeps_courant m.grid.shape (three speeds)) (Courant speeds)

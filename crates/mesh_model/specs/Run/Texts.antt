@@ -8,7 +8,7 @@ use Rattle.amr_num.specs.declared.BlockAt.{BlockAt}
 use Rattle.amr_num.specs.declared.CellAt.{CellAt}
 use Rattle.mesh_model.specs.declared.fields.values.Group.{Group}
 use Rattle.mesh_model.specs.declared.fields.values.Group.TheVariants.{Cell, Face, Edge}
-use Rattle.mesh_model.specs.Geometry.Coordinates.{next, face_of, edge_of}
+use Rattle.mesh_model.specs.Geometry.Coordinates.{face_of, edge_of}
 use Rattle.mesh_model.specs.Fields.VariableNames.{VariableNames}
 use Rattle.mesh_model.specs.Fields.Plain.{Mesh}
 use Rattle.mesh_model.specs.Fields.Circulation.{net_flux}
@@ -17,7 +17,7 @@ use Rattle.mesh_model.specs.Tree.Order.{nodes}
 use Rattle.mesh_model.specs.Fields.Totals.{leaf_sum, total}
 use Rattle.mesh_model.specs.Fields.Views.{face_view, edge_view}
 use Rattle.mesh_model.specs.Geometry.Places.{guard_index, in_block, longer_across, longer_on, places}
-use Rattle.mesh_model.specs.Geometry.Canonical.{named_on}
+use Rattle.mesh_model.specs.Geometry.Canonical.{canonical_edge, canonical_face}
 
 -- a line of words: one space between each two, and one line feed at the end
 abbrev pub text_line : List (List ℕ) → List ℕ
@@ -57,14 +57,14 @@ abbrev pub face_block_text : Mesh → BlockAt → Axis → List ℕ
 face_block_text m b a =
     let n = m.grid.shape.n in
     text_line (codes "face" ∷ group_name m.names Face ∷ axis_name a ∷ block_words b)
-    ++ array_text (longer_on a X n) (longer_on a Y n) (longer_on a Z n) (λ i j k. face_view m.grid m.faces (face_of a (named_on m.grid.shape a (in_block n b i j k))))
+    ++ array_text (longer_on a X n) (longer_on a Y n) (longer_on a Z n) (λ i j k. face_view m.grid m.faces (canonical_face m.grid.shape (face_of a (in_block n b i j k))))
 
 -- a leaf's edge views at its own level, along the axis a
 abbrev pub edge_block_text : Mesh → BlockAt → Axis → List ℕ
 edge_block_text m b a =
     let n = m.grid.shape.n in
     text_line (codes "edge" ∷ group_name m.names Edge ∷ axis_name a ∷ block_words b)
-    ++ array_text (longer_across a X n) (longer_across a Y n) (longer_across a Z n) (λ i j k. edge_view m.grid m.edges (edge_of a (named_on m.grid.shape (next a) (named_on m.grid.shape (next (next a)) (in_block n b i j k)))))
+    ++ array_text (longer_across a X n) (longer_across a Y n) (longer_across a Z n) (λ i j k. edge_view m.grid m.edges (canonical_edge m.grid.shape (edge_of a (in_block n b i j k))))
 
 -- the numbers of a variable, leaf by leaf
 abbrev pub variable_text : Mesh → Group → List ℕ

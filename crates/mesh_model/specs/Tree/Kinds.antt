@@ -6,6 +6,9 @@ use Rattle.amr_num.specs.declared.CellAt.{CellAt}
 use Rattle.amr_num.specs.declared.FaceAt.{FaceAt}
 use Rattle.amr_num.specs.declared.EdgeAt.{EdgeAt}
 use Rattle.mesh_model.specs.declared.geometry.Shape.{Shape}
+use Rattle.mesh_model.specs.declared.tree.NodeKind.{NodeKind}
+use Rattle.mesh_model.specs.declared.tree.NodeKind.TheVariants.{Leaf, AboveLeaf, Inner}
+use Rattle.mesh_model.specs.Geometry.Blocks.{children}
 use Rattle.mesh_model.specs.Geometry.Coordinates.{low_cell, high_cell, round_edge}
 
 -- the domain, and the blocks that are leaves
@@ -55,3 +58,11 @@ is_split_edge g e = list_any (holds (is_split g)) (round_edge g.shape e)
 
 unfoldable pub is_leaf_edge : Grid → EdgeAt → Bool
 is_leaf_edge g e = list_any (holds (is_leaf g)) (round_edge g.shape e) && not (is_split_edge g e)
+
+-- a parent of at least one leaf
+abbrev pub is_above_leaf : Grid → BlockAt → Bool
+is_above_leaf g b = list_any (is_leaf_block g) (children b)
+
+-- what a node is: a leaf, a parent of at least one leaf, or any other
+unfoldable pub kind_of : Grid → BlockAt → NodeKind
+kind_of g b = if is_leaf_block g b then Leaf else (if is_above_leaf g b then AboveLeaf else Inner)

@@ -1,16 +1,17 @@
 -- The tree as its nodes are reported: numbers, kinds and neighbours, read from the leaves.
 use Rattle.std.specs.Prelude.{ℕ, suc, ◌*◌, ◌^◌, Bool, ◌==◌, if◌then◌else◌, ℤ, pos, negsuc, List, [], ◌∷◌, Option, Some, None}
-use Rattle.std.specs.List.{list_any}
 use Rattle.std.specs.Option.{option_map}
 use Rattle.amr_num.specs.declared.Axis.{Axis}
 use Rattle.amr_num.specs.declared.Axis.TheVariants.{X, Y, Z}
 use Rattle.amr_num.specs.declared.BlockAt.{BlockAt}
 use Rattle.mesh_model.specs.declared.geometry.Shape.{Shape}
-use Rattle.mesh_model.specs.Geometry.Blocks.{children, parent_block, is_same_block}
+use Rattle.mesh_model.specs.Geometry.Blocks.{parent_block, is_same_block}
 use Rattle.mesh_model.specs.Geometry.Coordinates.{above, below, is_periodic, roots}
 use Rattle.mesh_model.specs.Tree.Order.{nodes}
-use Rattle.mesh_model.specs.Tree.Kinds.{Grid, is_leaf_block}
-use Rattle.mesh_model.specs.Geometry.Touch.{place}
+use Rattle.mesh_model.specs.declared.tree.NodeKind.{NodeKind}
+use Rattle.mesh_model.specs.declared.tree.NodeKind.TheVariants.{Leaf, AboveLeaf, Inner}
+use Rattle.mesh_model.specs.Tree.Kinds.{Grid, kind_of}
+use Rattle.mesh_model.specs.Geometry.Touch.{block_on}
 
 -- the place of a block in a list of blocks, from 0
 abbrev pub place_in : BlockAt → List BlockAt → Option ℕ
@@ -37,18 +38,19 @@ blocks_along s a l = roots s a * 2 ^ l
 
 -- the block of the same level across a block's low and its high side on an axis, where that is no outer boundary
 abbrev pub low_neighbour : Shape → Axis → BlockAt → Option BlockAt
-low_neighbour s a b = option_map (λ p. with_place a p b) (below (is_periodic s a) (blocks_along s a b.level) (place a b))
+low_neighbour s a b = option_map (λ p. with_place a p b) (below (is_periodic s a) (blocks_along s a b.level) (block_on a b))
 
 abbrev pub high_neighbour : Shape → Axis → BlockAt → Option BlockAt
-high_neighbour s a b = option_map (λ p. with_place a p b) (above (is_periodic s a) (blocks_along s a b.level) (suc (place a b)))
-
--- a parent of at least one leaf
-abbrev pub is_above_leaf : Grid → BlockAt → Bool
-is_above_leaf g b = list_any (is_leaf_block g) (children b)
+high_neighbour s a b = option_map (λ p. with_place a p b) (above (is_periodic s a) (blocks_along s a b.level) (suc (block_on a b)))
 
 -- the type of a node as it is reported: 1 a leaf, 2 a parent of at least one leaf, 3 any other
+abbrev pub type_number : NodeKind → ℕ
+type_number Leaf = 1
+type_number AboveLeaf = 2
+type_number Inner = 3
+
 abbrev pub type_of : Grid → BlockAt → ℕ
-type_of g b = if is_leaf_block g b then 1 else (if is_above_leaf g b then 2 else 3)
+type_of g b = type_number (kind_of g b)
 
 -- a node's number as it is reported: -1 where there is no such node
 abbrev pub reported : Option ℕ → ℤ

@@ -12,7 +12,7 @@ use amr_num::{Axis, BlockAt};
 
 /// A block's coordinate on an axis.
 fn place(axis: Axis, b: BlockAt) -> u32
-    ensures { result ≡ touch.place axis b }
+    ensures { result ≡ touch.block_on axis b }
 {
     match axis {
         Axis::X => b.x,
@@ -63,8 +63,8 @@ fn stretches_meet(
 /// Whether two blocks meet on an axis.
 fn meet_on(shape: &Shape, a: BlockAt, b: BlockAt, axis: Axis) -> bool
     requires shape { IsShape shape.now }
-    requires first { (a.level ≤ 10) × (touch.place axis a < 8 * 2 ^ a.level) }
-    requires second { (b.level ≤ 10) × (touch.place axis b < 8 * 2 ^ b.level) }
+    requires first { (a.level ≤ 10) × (touch.block_on axis a < 8 * 2 ^ a.level) }
+    requires second { (b.level ≤ 10) × (touch.block_on axis b < 8 * 2 ^ b.level) }
     ensures { result ≡ touch.meet_on shape.now a b axis }
 {
     let extent = roots(shape, axis) * 1024;

@@ -1,4 +1,5 @@
-use Rattle.morton_key.proofs.Placing.{outer_first, parent_first, by_octant, keep_blocks}
+use Rattle.morton_key.proofs.Placing.{outer_first, parent_first, keep_blocks}
+use Rattle.mesh_model.proofs.TreeLemmas.Sorting.{later_child}
 use Rattle.morton_key.proofs.laws.keys_rise.Goals as goal
 
 pub returns-clause-outer : goal.returns-clause-outer
@@ -8,7 +9,7 @@ pub returns-clause-parent : goal.returns-clause-parent
 returns-clause-parent c = parent_first
 
 pub returns-clause-children : goal.returns-clause-children
-returns-clause-children c = by_octant
+returns-clause-children c = later_child
 
 pub returns-clause-inside : goal.returns-clause-inside
 returns-clause-inside c = keep_blocks

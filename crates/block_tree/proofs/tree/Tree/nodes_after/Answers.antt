@@ -6,7 +6,7 @@ use Rattle.mesh_model.specs.Tree.Order.{nodes}
 use Rattle.morton_key.specs.Keyed.{HasKey}
 use Rattle.block_tree.specs.GridOf.{grid_of}
 use Rattle.block_tree.specs.Numbered.{block_at, block_in, blocks_of, flag_in}
-use Rattle.block_tree.specs.Places.{in_place}
+use Rattle.block_tree.specs.Places.{nodes_for}
 use Rattle.block_tree.proofs.Counting.{flat_take}
 use Rattle.block_tree.proofs.Facts.{known}
 use Rattle.block_tree.proofs.Flags.{set_at}
@@ -42,9 +42,9 @@ loop-node-preserved c =
     let flag = flag_in c.args.refine.now node in
     let here : node < length all = let lt = c.loop-node-test.true in let len = c.len-node-end.ensures.value in omega arith in
     c.in_ok-push_place.ensures
-    ∙ ap (λ u. c.loop-node.nodes.items ++ in_place u flag c.goes-goes.result) c.at.ensures.value
-    ∙ ap (λ u. c.loop-node.nodes.items ++ in_place b u c.goes-goes.result) (sym (set_at t (flag_in c.args.refine.now) node here))
-    ∙ ap (λ u. c.loop-node.nodes.items ++ in_place b (refine b) u) c.goes-goes.ensures
+    ∙ ap (λ u. c.loop-node.nodes.items ++ nodes_for u flag c.goes-goes.result) c.at.ensures.value
+    ∙ ap (λ u. c.loop-node.nodes.items ++ nodes_for b u c.goes-goes.result) (sym (set_at t (flag_in c.args.refine.now) node here))
+    ∙ ap (λ u. c.loop-node.nodes.items ++ nodes_for b (refine b) u) c.goes-goes.ensures
     ∙ ap (λ u. u ++ placed refine merge b) c.loop-node.invariant
     ∙ sym (flat_take (placed refine merge) all node here)
 

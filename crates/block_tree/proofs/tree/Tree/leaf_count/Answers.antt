@@ -9,8 +9,8 @@ use Rattle.block_tree.proofs.Counting.{passed_more, passed_few, one_more, none_m
 use Rattle.block_tree.proofs.Numbers.{most_few}
 use Rattle.block_tree.proofs.Facts.{known}
 use Rattle.block_tree.proofs.Leaves.{leaves_are}
-use Rattle.block_tree.proofs.tree.Tree.leaves.Goals as goal
-use Rattle.block_tree.proofs.tree.Tree.leaves.Goals.{then-is_leaf, else-is_leaf}
+use Rattle.block_tree.proofs.tree.Tree.leaf_count.Goals as goal
+use Rattle.block_tree.proofs.tree.Tree.leaf_count.Goals.{then-is_leaf, else-is_leaf}
 
 pub overflow_add-count : goal.overflow_add-count
 overflow_add-count c =
