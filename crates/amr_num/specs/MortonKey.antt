@@ -1,5 +1,6 @@
 -- The Morton key, by which nodes of the tree are ordered.
 use Rattle.std.specs.Prelude.{ℕ, zero, suc, ◌+◌, ◌-◌, ◌*◌, ◌/◌, ◌%◌, ◌^◌}
+use Rattle.amr_num.specs.Numbers.{finest_level}
 use Rattle.amr_num.specs.declared.BlockAt.{BlockAt}
 
 -- the lowest k bits of x, y and z in turn, x lowest
@@ -9,7 +10,7 @@ interleave (suc k) x y z = (x % 2 + 2 * (y % 2) + 4 * (z % 2)) + 8 * interleave 
 
 -- where a block begins on an axis, in blocks of the finest level 10
 unfoldable pub low_end : ℕ → ℕ → ℕ
-low_end l x = x * 2 ^ (10 - l)
+low_end l x = x * 2 ^ (finest_level - l)
 
 -- the place of a block's first finest block on the Morton curve
 unfoldable pub morton : BlockAt → ℕ

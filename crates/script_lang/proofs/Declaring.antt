@@ -40,7 +40,12 @@ domain_within s t ws old h =
       few_x = (count_range 1 8 (word ws 1) x.0 x.1).1;
       few_y = (count_range 1 8 (word ws 2) y.0 y.1).1;
       few_z = (count_range 1 8 (word ws 3) z.0 z.1).1;
-      cells = old.cells; guards = old.guards; min = old.min; max = old.max; six = old.six; both = old.both;
+      cells = old.cells;
+      guards = old.guards;
+      min = old.min;
+      max = old.max;
+      six = old.six;
+      both = old.both;
     })
 
 four_or_eight : (n : ℕ) → list_any (λ m. m == n) (4 ∷ 8 ∷ []) ≡ true → (n ≡ 4) ⊎ (n ≡ 8)
@@ -83,12 +88,21 @@ bounds_within s t ws old h =
     let xy = both (are_paired a.0 b.0 && are_paired c.0 d.0) (are_paired e.0 f.0) k.0 in
     let x = both (are_paired a.0 b.0) (are_paired c.0 d.0) xy.0 in
     subst IsShape k.1 (record {
-      rx = old.rx; ry = old.ry; rz = old.rz; few_x = old.few_x; few_y = old.few_y; few_z = old.few_z;
-      cells = old.cells; guards = old.guards; min = old.min; max = old.max; six = refl;
+      rx = old.rx;
+      ry = old.ry;
+      rz = old.rz;
+      few_x = old.few_x;
+      few_y = old.few_y;
+      few_z = old.few_z;
+      cells = old.cells;
+      guards = old.guards;
+      min = old.min;
+      max = old.max;
+      six = refl;
       both = by_axis (a.0 ∷ b.0 ∷ c.0 ∷ d.0 ∷ e.0 ∷ f.0 ∷ [])
-        (same_sides (is_periodic_kind a.0) (is_periodic_kind b.0) x.0)
-        (same_sides (is_periodic_kind c.0) (is_periodic_kind d.0) x.1)
-        (same_sides (is_periodic_kind e.0) (is_periodic_kind f.0) xy.1);
+          (same_sides (is_periodic_kind a.0) (is_periodic_kind b.0) x.0)
+          (same_sides (is_periodic_kind c.0) (is_periodic_kind d.0) x.1)
+          (same_sides (is_periodic_kind e.0) (is_periodic_kind f.0) xy.1);
     })
 
 below : (a b : ℕ) → nat_le a b ≡ true → a ≤ b

@@ -9,7 +9,7 @@ use Rattle.amr_num.specs.declared.CellAt.{CellAt}
 use Rattle.amr_num.specs.declared.FaceAt.{FaceAt}
 use Rattle.amr_num.specs.declared.Axis.TheVariants.{X, Y, Z}
 use Rattle.amr_num.specs.declared.SideKind.TheVariants.{Periodic, Outflow, Closed}
-use Rattle.amr_num.specs.Numbers.{carry}
+use Rattle.amr_num.specs.Numbers.{carry, finest_level}
 use Rattle.mesh_model.specs.declared.geometry.Shape.{Shape}
 use Rattle.mesh_model.specs.Geometry.Coordinates.{is_periodic, extent, on, with, face_numbers, side_kind, side_index}
 use Rattle.mesh_model.specs.Tree.Kinds.{Grid}
@@ -75,7 +75,7 @@ leaf_flux g content n f =
 
 -- the flux through a face of a leaf cell: where it has a split side, the sum of its subfaces'
 abbrev pub flux : Grid → (CellAt → ℤ) → Speeds → FaceAt → ℤ
-flux g content n f = face_down g (leaf_flux g content n) (10 - f.level) f
+flux g content n f = face_down g (leaf_flux g content n) (finest_level - f.level) f
 
 -- the contents after: each leaf cell loses its net outflow
 abbrev pub advected : Grid → (CellAt → ℤ) → Speeds → CellAt → ℤ

@@ -5,7 +5,7 @@ use Rattle.amr_num.specs.declared.BlockAt.{BlockAt}
 use Rattle.amr_num.specs.declared.CellAt.{CellAt}
 use Rattle.amr_num.specs.declared.FaceAt.{FaceAt}
 use Rattle.amr_num.specs.declared.EdgeAt.{EdgeAt}
-use Rattle.amr_num.specs.Numbers.{Within, sum_below, floor_div}
+use Rattle.amr_num.specs.Numbers.{Within, sum_below, floor_div, number_range}
 use Rattle.mesh_model.specs.declared.geometry.Shape.{Shape}
 use Rattle.mesh_model.specs.Fields.VariableNames.{VariableNames}
 use Rattle.mesh_model.specs.Geometry.Coordinates.{Inside, on, with, extent, next, sub_cell, sub_face, half_edge, parent_face, face_of, edge_of, after, face_numbers, edge_numbers, EdgeInside}
@@ -152,7 +152,7 @@ SplitEdgesAreBounded = (g : Grid) (number : EdgeAt → ℤ) (most : ℕ) → Val
 
 -- in a valid mesh there are few enough leaf cells for these views to stay below 2^62
 abbrev pub LeafCellsAreFew : Type 0
-LeafCellsAreFew = (m : Mesh) → ValidMesh m → 2 ^ 40 * leaf_cells m.grid ≤ 2 ^ 62
+LeafCellsAreFew = (m : Mesh) → ValidMesh m → number_range * leaf_cells m.grid ≤ 2 ^ 62
 
 -- ---- start, closure and regrid
 

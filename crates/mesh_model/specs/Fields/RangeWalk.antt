@@ -2,6 +2,7 @@
 use Rattle.std.specs.Prelude.{ℕ, ◌+◌, ◌*◌, ◌^◌, Bool, ◌&&◌, nat_lt, if◌then◌else◌, ℤ, unsigned_abs, List, [], ◌∷◌, map, flat_map, length, Option, Some, None, find}
 use Rattle.std.specs.Option.{option_or, option_map}
 use Rattle.std.specs.List.{range_with_len}
+use Rattle.amr_num.specs.Numbers.{number_range, outflow_range}
 use Rattle.amr_num.specs.declared.Axis.TheVariants.{X, Y, Z}
 use Rattle.amr_num.specs.declared.CellAt.{CellAt}
 use Rattle.amr_num.specs.declared.FaceAt.{FaceAt}
@@ -50,17 +51,17 @@ variables m = range_with_len 0 (length m.names.cells)
 
 -- the first content of a variable that is out of range
 abbrev pub first_cell_above : Mesh → ℕ → Option RangeStop
-first_cell_above m v = option_map (cell_above m v) (find (λ c. is_above (2 ^ 40) (m.cells v c)) (cells_walked m.grid))
+first_cell_above m v = option_map (cell_above m v) (find (λ c. is_above number_range (m.cells v c)) (cells_walked m.grid))
 
 -- what has flowed out of a variable, where that is out of range
 abbrev pub out_excess : Mesh → ℕ → Option RangeStop
-out_excess m v = if is_above (2 ^ 100) (m.outs v) then Some (out_above m v) else None
+out_excess m v = if is_above outflow_range (m.outs v) then Some (out_above m v) else None
 
 -- the first number out of range: of the cell variables in declared order, then of what flowed out of them, then of the face and the edge
 -- variable; of faces and edges only leaf ones count
 unfoldable pub first_excess : Mesh → Option RangeStop
 first_excess m =
     option_or (first_of_all (first_cell_above m) (variables m))
-    (option_or (option_map (out_above m) (find (λ v. is_above (2 ^ 100) (m.outs v)) (variables m)))
-    (option_or (option_map (face_above m) (find (λ f. is_leaf_face m.grid f && is_above (2 ^ 40) (m.faces f)) (faces_walked m.grid)))
-    (option_map (edge_above m) (find (λ e. is_leaf_edge m.grid e && is_above (2 ^ 40) (m.edges e)) (edges_walked m.grid)))))
+    (option_or (option_map (out_above m) (find (λ v. is_above outflow_range (m.outs v)) (variables m)))
+    (option_or (option_map (face_above m) (find (λ f. is_leaf_face m.grid f && is_above number_range (m.faces f)) (faces_walked m.grid)))
+    (option_map (edge_above m) (find (λ e. is_leaf_edge m.grid e && is_above number_range (m.edges e)) (edges_walked m.grid)))))

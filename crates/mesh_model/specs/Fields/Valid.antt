@@ -4,7 +4,7 @@ use Rattle.amr_num.specs.declared.BlockAt.{BlockAt}
 use Rattle.amr_num.specs.declared.CellAt.{CellAt}
 use Rattle.amr_num.specs.declared.FaceAt.{FaceAt}
 use Rattle.amr_num.specs.declared.EdgeAt.{EdgeAt}
-use Rattle.amr_num.specs.Numbers.{Within}
+use Rattle.amr_num.specs.Numbers.{Within, number_range, outflow_range}
 use Rattle.mesh_model.specs.Tree.Kinds.{is_leaf, is_leaf_face, is_leaf_edge}
 use Rattle.mesh_model.specs.Fields.Plain.{Mesh, marked}
 use Rattle.mesh_model.specs.Tree.MarkedGrid.{MarksFit, ValidMarkedGrid}
@@ -29,10 +29,10 @@ pub record OfDeclared (m : Mesh) : Type 0 where
 
 -- leaf numbers are at most 2^40 in absolute value, and what flowed out at most 2^100
 pub record InRange (m : Mesh) : Type 0 where
-  pub cells : (v : ℕ) (c : CellAt) → Within (2 ^ 40) (m.cells v c)
-  pub outs : (v : ℕ) → Within (2 ^ 100) (m.outs v)
-  pub faces : (f : FaceAt) → Within (2 ^ 40) (m.faces f)
-  pub edges : (e : EdgeAt) → Within (2 ^ 40) (m.edges e)
+  pub cells : (v : ℕ) (c : CellAt) → Within number_range (m.cells v c)
+  pub outs : (v : ℕ) → Within outflow_range (m.outs v)
+  pub faces : (f : FaceAt) → Within number_range (m.faces f)
+  pub edges : (e : EdgeAt) → Within number_range (m.edges e)
 
 -- the grid is valid, its leaves are listed in Morton order, there are not too many nodes, numbers are in their places, of declared variables and in range, and
 -- marks where they may be

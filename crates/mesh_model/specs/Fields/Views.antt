@@ -5,7 +5,7 @@ use Rattle.amr_num.specs.declared.Axis.TheVariants.{X, Y, Z}
 use Rattle.amr_num.specs.declared.CellAt.{CellAt}
 use Rattle.amr_num.specs.declared.FaceAt.{FaceAt}
 use Rattle.amr_num.specs.declared.EdgeAt.{EdgeAt}
-use Rattle.amr_num.specs.Numbers.{part, sum_below, floor_div}
+use Rattle.amr_num.specs.Numbers.{part, sum_below, floor_div, finest_level}
 use Rattle.mesh_model.specs.Geometry.Coordinates.{sub_cell, parent_cell, octant_of, sub_face, parent_face, half_edge, parent_edge, on, with, next, after, face_of, edge_of, face_numbers, edge_numbers}
 use Rattle.mesh_model.specs.Tree.Kinds.{Grid, is_leaf, is_split, is_leaf_face, is_split_face, is_leaf_edge, is_split_edge}
 use Rattle.mesh_model.specs.Fields.InnerRule.{Outer, middle_x, middle_y, middle_z}
@@ -28,11 +28,11 @@ octant_share views c q = part q (views c) 8
 -- cell that it lies in
 unfoldable pub view_at : Grid → (CellAt → ℤ) → ℕ → CellAt → ℤ
 view_at g content zero c = elim (is_split g c) [
-  | true ↦ sum_down g content (10 - c.level) c
+  | true ↦ sum_down g content (finest_level - c.level) c
   | false ↦ content c
 ]
 view_at g content (suc l) c = elim (is_split g c) [
-  | true ↦ sum_down g content (10 - c.level) c
+  | true ↦ sum_down g content (finest_level - c.level) c
   | false ↦ elim (is_leaf g c) [
     | true ↦ content c
     | false ↦ octant_share (view_at g content l) (parent_cell c) (octant_of c)
@@ -86,7 +86,7 @@ face_down g number (suc d) f = elim (is_split_face g f) [
 -- the view of a face by its first three cases, with the views of the level above: a split face, a leaf face, a face at an even position
 unfoldable pub outer_face_view : Grid → (FaceAt → ℤ) → (FaceAt → ℤ) → FaceAt → ℤ
 outer_face_view g number above f = elim (is_split_face g f) [
-  | true ↦ face_down g number (10 - f.level) f
+  | true ↦ face_down g number (finest_level - f.level) f
   | false ↦ elim (is_leaf_face g f) [
     | true ↦ number f
     | false ↦ part (quarter_of f) (above (parent_face f)) 4
@@ -97,7 +97,7 @@ outer_face_view g number above f = elim (is_split_face g f) [
 -- gives of the views on the sides of the cell round it
 unfoldable pub face_view_at : Grid → (FaceAt → ℤ) → ℕ → FaceAt → ℤ
 face_view_at g number zero f = elim (is_split_face g f) [
-  | true ↦ face_down g number (10 - f.level) f
+  | true ↦ face_down g number (finest_level - f.level) f
   | false ↦ number f
 ]
 face_view_at g number (suc l) f = elim (is_split_face g f || is_leaf_face g f || is_even (on f.axis (face_numbers f))) [
@@ -138,7 +138,7 @@ edge_down g number (suc d) e = elim (is_split_edge g e) [
 -- the view of an edge by its first three cases, with the views of the level above: a split edge, a leaf edge, an edge at even positions
 unfoldable pub outer_edge_view : Grid → (EdgeAt → ℤ) → (EdgeAt → ℤ) → EdgeAt → ℤ
 outer_edge_view g number above e = elim (is_split_edge g e) [
-  | true ↦ edge_down g number (10 - e.level) e
+  | true ↦ edge_down g number (finest_level - e.level) e
   | false ↦ elim (is_leaf_edge g e) [
     | true ↦ number e
     | false ↦ part (half_of e) (above (parent_edge e)) 2
@@ -153,7 +153,7 @@ is_even_edge e = is_even (on (next e.axis) (edge_numbers e)) && is_even (on (nex
 -- views of the edges at the even positions beside or round it
 unfoldable pub edge_view_at : Grid → (EdgeAt → ℤ) → ℕ → EdgeAt → ℤ
 edge_view_at g number zero e = elim (is_split_edge g e) [
-  | true ↦ edge_down g number (10 - e.level) e
+  | true ↦ edge_down g number (finest_level - e.level) e
   | false ↦ number e
 ]
 edge_view_at g number (suc l) e = elim (is_split_edge g e || is_leaf_edge g e || is_even_edge e) [

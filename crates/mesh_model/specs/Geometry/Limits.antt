@@ -1,5 +1,6 @@
 -- The limits of a mesh.
 use Rattle.std.specs.Prelude.{◌≡◌, ℕ, suc, ◌<◌, ◌≤◌, ◌⊎◌, ◌==◌, if◌then◌else◌, length}
+use Rattle.amr_num.specs.Numbers.{finest_level}
 use Rattle.amr_num.specs.declared.Axis.{Axis}
 use Rattle.mesh_model.specs.declared.geometry.Shape.{Shape}
 use Rattle.mesh_model.specs.Geometry.Coordinates.{is_periodic_kind, side_kind, side_index}
@@ -16,7 +17,7 @@ pub record IsShape (s : Shape) : Type 0 where
   pub cells : (s.n ≡ 4) ⊎ (s.n ≡ 8)
   pub guards : (s.g ≡ 1) ⊎ ((s.g ≡ 2) ⊎ (s.g ≡ 4))
   pub min : s.min ≤ s.max
-  pub max : s.max ≤ 10
+  pub max : s.max ≤ finest_level
   pub six : length s.sides ≡ 6
   pub both : (a : Axis) → is_periodic_kind (side_kind s.sides (side_index a)) ≡ is_periodic_kind (side_kind s.sides (suc (side_index a)))
 

@@ -1,5 +1,6 @@
 -- The lines that act.
 use Rattle.std.specs.Prelude.{ℕ, ◌^◌, Bool, ◌&&◌, ◌==◌, nat_lt, nat_le, if◌then◌else◌, List, length, Result, Ok, Err, codes, bytes_eq, slice_index}
+use Rattle.amr_num.specs.Numbers.{number_range}
 use Rattle.amr_num.specs.declared.Axis.TheVariants.{X, Y, Z}
 use Rattle.mesh_model.specs.declared.geometry.Shape.{Shape}
 use Rattle.mesh_model.specs.declared.language.script.Command.{Command}
@@ -62,7 +63,7 @@ edgeset words = do
 -- uniform BX BY BZ
 unfoldable pub uniform : List (List ℕ) → Result Command Reason
 uniform words = do
-  b ← numbers (2 ^ 40) words 1
+  b ← numbers number_range words 1
   Ok (Uniform b)
 
 -- mark refine where VAR above V, and mark refine L X Y Z

@@ -1,6 +1,6 @@
 -- Which numbers the commands and declarations of an accepted script have, and the script as plain data.
 use Rattle.std.specs.Prelude.{◌≡◌, ℕ, ◌<◌, ◌≤◌, ◌≢◌, ◌^◌, ◌⊎◌, true, List, ℤ, length, IfSome, slice_index, slice_index_or, All, AllPairs, IsSome}
-use Rattle.amr_num.specs.Numbers.{Within}
+use Rattle.amr_num.specs.Numbers.{Within, finest_level, number_range}
 use Rattle.amr_num.specs.declared.Axis.{Axis}
 use Rattle.amr_num.specs.declared.BlockAt.{BlockAt}
 use Rattle.mesh_model.specs.declared.geometry.Shape.{Shape}
@@ -36,7 +36,7 @@ IsGroup names Edge = IsSome names.edge
 
 -- a number that a leaf may hold
 abbrev pub IsLeafNumber : ℤ → Type 0
-IsLeafNumber n = Within (2 ^ 40) n
+IsLeafNumber n = Within number_range n
 
 -- three numbers of absolute value at most `most`
 pub record AreThree (most : ℕ) (numbers : List ℤ) : Type 0 where
@@ -45,14 +45,14 @@ pub record AreThree (most : ℕ) (numbers : List ℤ) : Type 0 where
 
 -- a place that a script can name, be it in the domain or not
 pub record IsPlace (at : BlockAt) : Type 0 where
-  pub level : at.level ≤ 10
+  pub level : at.level ≤ finest_level
   pub x : at.x ≤ 65536
   pub y : at.y ≤ 65536
   pub z : at.z ≤ 65536
 
 -- a box of cells of level l: on each axis it begins below its end, within the domain
 pub record IsBox (s : Shape) (l : ℕ) (low high : List ℕ) : Type 0 where
-  pub level : l ≤ 10
+  pub level : l ≤ finest_level
   pub begins : (a : Axis) → slice_index low (axis_index a) < slice_index high (axis_index a)
   pub ends : (a : Axis) → slice_index high (axis_index a) ≤ extent s a l
 
@@ -62,7 +62,7 @@ IsCommandOf d (FillAll var value) = IsCellVariable d.names var × IsLeafNumber v
 IsCommandOf d (FillBox var level low high value) = IsCellVariable d.names var × IsBox d.shape level low high × IsLeafNumber value
 IsCommandOf d (FaceSet at value) = IsSome d.names.face × IsPlace (record { level = at.level; x = at.x; y = at.y; z = at.z }) × IsLeafNumber value
 IsCommandOf d (EdgeSet at value) = IsSome d.names.edge × IsPlace (record { level = at.level; x = at.x; y = at.y; z = at.z }) × IsLeafNumber value
-IsCommandOf d (Uniform b) = IsSome d.names.face × AreThree (2 ^ 40) b
+IsCommandOf d (Uniform b) = IsSome d.names.face × AreThree number_range b
 IsCommandOf d (MarkRefine at) = IsPlace at
 IsCommandOf d (MarkDerefine at) = IsPlace at
 IsCommandOf d (RefineWhere var above) = IsCellVariable d.names var × IsLeafNumber above

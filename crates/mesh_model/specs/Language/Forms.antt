@@ -1,6 +1,7 @@
 -- The words of a command by their kinds: numbers, fixed words, sides, axes, variables and new names.
 use Rattle.std.specs.Prelude.{ℕ, ◌+◌, ◌^◌, Bool, false, not, ◌&&◌, ◌||◌, ◌==◌, nat_le, if◌then◌else◌, List, [], ◌∷◌, Option, Some, None, Result, Ok, Err, ℤ, pos, unsigned_abs, int_le, codes, bytes_eq, is_some, position}
 use Rattle.std.specs.List.{list_any}
+use Rattle.amr_num.specs.Numbers.{finest_level, number_range}
 use Rattle.amr_num.specs.declared.Axis.{Axis}
 use Rattle.amr_num.specs.declared.Axis.TheVariants.{X, Y, Z}
 use Rattle.amr_num.specs.declared.SideKind.{SideKind}
@@ -49,7 +50,7 @@ one_of numbers w = do
 
 -- a number that a leaf may hold
 abbrev pub leaf_number : List ℕ → Result ℤ Reason
-leaf_number = number (2 ^ 40)
+leaf_number = number number_range
 
 -- three numbers of absolute value at most `most`, the first at place i
 unfoldable pub numbers : ℕ → List (List ℕ) → ℕ → Result (List ℤ) Reason
@@ -61,7 +62,7 @@ numbers most words i = do
 
 -- a level
 abbrev pub level : List ℕ → Result ℕ Reason
-level = count 0 10
+level = count 0 finest_level
 
 -- three coordinates, the first at place i
 unfoldable pub point : List (List ℕ) → ℕ → Result (List ℕ) Reason

@@ -1,6 +1,7 @@
 -- The closure of marks: which leaves are refined, and which parents are merged.
 use Rattle.std.specs.Prelude.{ℕ, zero, suc, ◌-◌, Bool, true, false, not, ◌&&◌, ◌||◌, ◌==◌, nat_lt}
 use Rattle.std.specs.List.{list_any, list_all}
+use Rattle.amr_num.specs.Numbers.{finest_level}
 use Rattle.amr_num.specs.declared.BlockAt.{BlockAt}
 use Rattle.mesh_model.specs.Tree.MarkedGrid.{MarkedGrid}
 use Rattle.mesh_model.specs.Tree.Kinds.{is_leaf_block}
@@ -17,7 +18,7 @@ refined m (suc d) b = m.refine b || list_any (λ leaf. elim ((leaf.level == suc 
 
 -- the refined set: the leaves to which a chain of leaves leads from a marked one, each touching the one before and one level coarser
 abbrev pub is_refined : MarkedGrid → BlockAt → Bool
-is_refined m b = is_leaf_block m.grid b && refined m (10 - b.level) b
+is_refined m b = is_leaf_block m.grid b && refined m (finest_level - b.level) b
 
 -- a leaf above the coarsest level that is marked derefine and not refined
 unfoldable pub is_ready : MarkedGrid → BlockAt → Bool
@@ -41,4 +42,4 @@ merged m (suc d) p =
 
 -- the merged set
 abbrev pub is_merged : MarkedGrid → BlockAt → Bool
-is_merged m p = merged m (10 - p.level) p
+is_merged m p = merged m (finest_level - p.level) p

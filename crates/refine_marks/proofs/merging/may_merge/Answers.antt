@@ -41,15 +41,15 @@ returns-then-not-touches_flagged c kept flags =
     let one : l + 1 ≡ suc l = omega arith in
     let two : l + 2 ≡ suc (suc l) = omega arith in
     let last = ap not (c.touches_flagged-then-not-touches_flagged.ensures kept (subst (λ k. AreFlagsAt g k kept c.args.stays.now) (sym two) flags)
-        ∙ ap (λ k. touches_any g kept k c.at-block.result) two ∙ ap (touches_any g kept (suc (suc l))) c.at-block.ensures.value) in
+    ∙ ap (λ k. touches_any g kept k c.at-block.result) two ∙ ap (touches_any g kept (suc (suc l))) c.at-block.ensures.value) in
     elim c.if-has_ready_children.branch [
       | then-has_ready_children w ↦ elim c.if-block-level.branch [
         | then-block-level v ↦
             last ∙ sym (last_decides (p.level == l) (list_all (is_ready m) (children p)) (not (touches_any g (is_refined m) (suc l) p)) (not (touches_any g kept (suc (suc l)) p))
-              (ap (λ (b : BlockAt). b.level == l) (sym c.at-block.ensures.value) ∙ eq-eqb _ _ v.if-block-level.true)
-              (sym v.has_ready_children.ensures ∙ sym v.value-is ∙ w.if-has_ready_children.true)
-              (ap not (ap (touches_any g (is_refined m) (suc l)) (sym c.at-block.ensures.value) ∙ ap (λ k. touches_any g (is_refined m) k c.at-block.result) (sym one)
-                ∙ sym (w.touches_flagged.ensures (is_refined m) (at_level g (l + 1) (is_refined m) c.args.refine.now c.requires.refine))) ∙ sym w.value-is ∙ c.if-not-touches_flagged.true))
+            (ap (λ (b : BlockAt). b.level == l) (sym c.at-block.ensures.value) ∙ eq-eqb _ _ v.if-block-level.true)
+            (sym v.has_ready_children.ensures ∙ sym v.value-is ∙ w.if-has_ready_children.true)
+            (ap not (ap (touches_any g (is_refined m) (suc l)) (sym c.at-block.ensures.value) ∙ ap (λ k. touches_any g (is_refined m) k c.at-block.result) (sym one)
+            ∙ sym (w.touches_flagged.ensures (is_refined m) (at_level g (l + 1) (is_refined m) c.args.refine.now c.requires.refine))) ∙ sym w.value-is ∙ c.if-not-touches_flagged.true))
         | else-block-level v ↦ absurd (clash _ w.if-has_ready_children.true (v.value-is ∙ ne_eqb _ _ v.if-block-level.false))
       ]
       | else-has_ready_children w ↦ absurd (clash _ c.if-not-touches_flagged.true (w.value-is ∙ w.if-has_ready_children.false))
@@ -65,14 +65,14 @@ returns-else-not-touches_flagged c kept flags =
     elim c.if-has_ready_children.branch [
       | then-has_ready_children w ↦
           c.if-not-touches_flagged.false ∙ sym (three_fails (p.level == l) (list_all (is_ready m) (children p)) (not (touches_any g (is_refined m) (suc l) p)) (not (touches_any g kept (suc (suc l)) p))
-            (ap not (ap (touches_any g (is_refined m) (suc l)) (sym c.at-block.ensures.value) ∙ ap (λ k. touches_any g (is_refined m) k c.at-block.result) (sym one)
-                ∙ sym (w.touches_flagged.ensures (is_refined m) (at_level g (l + 1) (is_refined m) c.args.refine.now c.requires.refine))) ∙ sym w.value-is ∙ c.if-not-touches_flagged.false))
+          (ap not (ap (touches_any g (is_refined m) (suc l)) (sym c.at-block.ensures.value) ∙ ap (λ k. touches_any g (is_refined m) k c.at-block.result) (sym one)
+          ∙ sym (w.touches_flagged.ensures (is_refined m) (at_level g (l + 1) (is_refined m) c.args.refine.now c.requires.refine))) ∙ sym w.value-is ∙ c.if-not-touches_flagged.false))
       | else-has_ready_children w ↦ elim c.if-block-level.branch [
         | then-block-level v ↦
             c.if-not-touches_flagged.false ∙ sym (two_fails (p.level == l) (list_all (is_ready m) (children p)) (not (touches_any g (is_refined m) (suc l) p)) (not (touches_any g kept (suc (suc l)) p))
-              (sym v.has_ready_children.ensures ∙ sym v.value-is ∙ w.if-has_ready_children.false))
+            (sym v.has_ready_children.ensures ∙ sym v.value-is ∙ w.if-has_ready_children.false))
         | else-block-level v ↦
             c.if-not-touches_flagged.false ∙ sym (one_fails (p.level == l) (list_all (is_ready m) (children p)) (not (touches_any g (is_refined m) (suc l) p)) (not (touches_any g kept (suc (suc l)) p))
-              (ap (λ (b : BlockAt). b.level == l) (sym c.at-block.ensures.value) ∙ ne_eqb _ _ v.if-block-level.false))
+            (ap (λ (b : BlockAt). b.level == l) (sym c.at-block.ensures.value) ∙ ne_eqb _ _ v.if-block-level.false))
       ]
     ]

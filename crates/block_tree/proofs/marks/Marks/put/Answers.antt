@@ -37,9 +37,9 @@ returns-clause-marks c =
     record {
       room = let size = length-set refine node c.args.refine in omega arith;
       fit = record {
-      refine = put_keeps c.args.tree.now (λ b. (is_leaf_block g b ≡ true) × (b.level < g.shape.max)) (flag_in refine) (flag_in (slice_set refine node c.args.refine)) node c.args.refine c.requires.node (flag_put refine node c.args.refine here) (λ i other. flag_kept refine node i c.args.refine other) c.requires.marks.fit.refine
-          (λ up. c.requires.refine up);
-      derefine = put_keeps c.args.tree.now (λ b. (is_leaf_block g b ≡ true) × (g.shape.min < b.level)) (flag_in derefine) (flag_in (slice_set derefine node c.args.derefine)) node c.args.derefine c.requires.node (flag_put derefine node c.args.derefine here2) (λ i other. flag_kept derefine node i c.args.derefine other) c.requires.marks.fit.derefine
-          (λ up. c.requires.derefine up);
+        refine = put_keeps c.args.tree.now (λ b. (is_leaf_block g b ≡ true) × (b.level < g.shape.max)) (flag_in refine) (flag_in (slice_set refine node c.args.refine)) node c.args.refine c.requires.node (flag_put refine node c.args.refine here) (λ i other. flag_kept refine node i c.args.refine other) c.requires.marks.fit.refine
+            (λ up. c.requires.refine up);
+        derefine = put_keeps c.args.tree.now (λ b. (is_leaf_block g b ≡ true) × (g.shape.min < b.level)) (flag_in derefine) (flag_in (slice_set derefine node c.args.derefine)) node c.args.derefine c.requires.node (flag_put derefine node c.args.derefine here2) (λ i other. flag_kept derefine node i c.args.derefine other) c.requires.marks.fit.derefine
+            (λ up. c.requires.derefine up);
       };
     }
