@@ -7,7 +7,7 @@ use Rattle.std.specs.Prelude.{unsigned_abs}
 use Rattle.amr_num.specs.Numbers.{Within}
 use Rattle.amr_num.specs.declared.CellAt.{CellAt}
 use Rattle.mesh_model.specs.declared.language.script.Command.{Command}
-use Rattle.mesh_model.specs.declared.language.script.Command.TheVariants.{Advect, FillAll, FillBox, Regrid}
+use Rattle.mesh_model.specs.declared.language.script.Command.TheVariants.{Advect, FillAll, FillBox}
 use Rattle.mesh_model.specs.declared.language.script.Declared.{Declared}
 use Rattle.mesh_model.specs.declared.run.stops.Refusal.{Refusal}
 use Rattle.mesh_model.specs.Fields.Advect.{advect, three, keeps_courant}
@@ -15,7 +15,7 @@ use Rattle.mesh_model.specs.Language.Commands.{AreThree, IsBox, IsCellVariable, 
 use Rattle.mesh_model.specs.Fields.Fill.{fill_all, fill_box}
 use Rattle.mesh_model.specs.Fields.Plain.{Mesh}
 use Rattle.mesh_model.specs.Fields.RangeWalk.{is_above}
-use Rattle.mesh_model.specs.Run.Runs.{declared_in, mesh_after, text_of}
+use Rattle.mesh_model.specs.Run.Runs.{TheSink, declared_in, mesh_after, needs, text_of}
 use Rattle.mesh_model.specs.Run.Stops.{refusal}
 use Rattle.mesh_model.specs.Fields.Valid.{InRange, ValidMesh}
 use Rattle.mesh_model.proofs.RunLemmas.RunValid.{keeps_validity}
@@ -23,12 +23,14 @@ use Rattle.outside_io.specs.Moved.{Takes}
 use Rattle.outside_io.specs.declared.Failed.{Failed}
 use Rattle.amr_engine.specs.declared.advection.Hindrance.{Hindrance}
 use Rattle.amr_engine.specs.declared.advection.Hindrance.TheVariants.{TooFast, Content, FlowedOut}
-use Rattle.amr_engine.specs.declared.engine.Cause.{Cause}
-use Rattle.amr_engine.specs.declared.engine.Cause.TheVariants as causes
+use Rattle.amr_engine.specs.declared.cause.Cause.{Cause}
+use Rattle.amr_engine.specs.declared.cause.Cause.TheVariants as causes
+use Rattle.amr_engine.specs.declared.cause.StoppedBy.{StoppedBy}
+use Rattle.amr_engine.specs.declared.cause.StoppedBy.TheVariants as by
 use Rattle.amr_engine.specs.Contents.{IsCell, IsUniform, KeepsLimits, cell_count, content_in}
 use Rattle.amr_engine.specs.Stepping.{IsStep, Tries}
 use Rattle.amr_report.specs.Printing.{Prints}
-use Rattle.amr_engine.specs.Stopping.{Acts, Changes, IsCause, Refuses, Regrows, Written, cause_told}
+use Rattle.amr_engine.specs.Stopping.{Acts, Changes, Leaves, MayStop, Written, cause_told, stopped_by}
 use Rattle.amr_engine.specs.UniformMesh.{uniform_mesh}
 use Rattle.amr_engine.proofs.Advected.{content_refused, mesh_made, not_refused, out_after, out_refused, too_fast}
 use Rattle.amr_engine.proofs.Filled.{still_uniform}
@@ -94,13 +96,13 @@ module _ (d : Declared) (lists : List (Vec ℤ Global)) (outs : List ℤ) (var :
   tried old next result tries = subst (λ z. Tries d.shape (get_or (contents_in lists) var []) speeds z old next result) (out_kept ∙ sym out_here) (subst (λ xs. Tries d.shape xs speeds (kept_128 out) old next result) (sym list_is) tries)
 
   -- a step that is hindered is refused
-  pub hindered : (old next : List ℤ) (hindrance : Hindrance) → Tries d.shape now speeds (kept_128 out) old next (Err hindrance) → Refuses (cause_told var speeds hindrance) before (Advect var speeds)
-  hindered old next hindrance tries = by hindrance (tried old next (Err hindrance) tries)
+  pub hindered : (old next : List ℤ) (hindrance : Hindrance) → Tries d.shape now speeds (kept_128 out) old next (Err hindrance) → MayStop (stopped_by (cause_told var speeds hindrance)) before (Advect var speeds)
+  hindered old next hindrance tries = told hindrance (tried old next (Err hindrance) tries)
     where
-      by : (hindrance : Hindrance) → Tries d.shape (get_or (contents_in lists) var []) speeds (get_or outs var (pos 0)) old next (Err hindrance) → Refuses (cause_told var speeds hindrance) before (Advect var speeds)
-      by TooFast tries = (_, too_fast before var speeds (subst (λ s. keeps_courant s (three speeds) ≡ false) (sym same_shape) tries), refl)
-      by (Content above) tries = (_, content_refused d (contents_in lists) outs var speeds uniform valid there tries.0 above tries.1, refl)
-      by (FlowedOut after) tries = (_, out_refused d (contents_in lists) outs var speeds uniform valid there tries.0 next old tries.1 after (tries.2 ∙ sym (out_after d (contents_in lists) outs var speeds uniform valid there tries.0 next old tries.1)) tries.3, refl)
+      told : (hindrance : Hindrance) → Tries d.shape (get_or (contents_in lists) var []) speeds (get_or outs var (pos 0)) old next (Err hindrance) → MayStop (stopped_by (cause_told var speeds hindrance)) before (Advect var speeds)
+      told TooFast tries = too_fast before var speeds (subst (λ s. keeps_courant s (three speeds) ≡ false) (sym same_shape) tries)
+      told (Content above) tries = content_refused d (contents_in lists) outs var speeds uniform valid there tries.0 above tries.1
+      told (FlowedOut after) tries = out_refused d (contents_in lists) outs var speeds uniform valid there tries.0 next old tries.1 after (tries.2 ∙ sym (out_after d (contents_in lists) outs var speeds uniform valid there tries.0 next old tries.1)) tries.3
 
   module _ (old next : List ℤ) (after : ℤ) (tries : Tries d.shape now speeds (kept_128 out) old next (Ok after)) (new : Vec ℤ Global) (new_is : new.items ≡ next) where
     abbrev known : Tries d.shape (get_or (contents_in lists) var []) speeds (get_or outs var (pos 0)) old next (Ok after)
@@ -159,65 +161,34 @@ module _ (d : Declared) (contents : List (List ℤ)) (outs : List ℤ) (uniform 
 
 -- ---- what a command does, as one fact
 
+-- nothing was written
+abbrev quiet : Option (List ℕ) → ℕ → Written
+quiet taken faults = record { before = taken; after = taken; faults = faults; new_faults = faults }
+
 -- a command that prints nothing and is not refused
-pub acts_quietly : (m after : Mesh) (command is : Command) (taken : Option (List ℕ)) (faults : ℕ) → command ≡ is → refusal m is ≡ None → text_of m is ≡ [] → after ≡ mesh_after m is →
-    Acts (Ok tt) m command after (record { before = taken; after = taken; faults = faults; new_faults = faults })
-acts_quietly m after command is taken faults e none quiet made =
-    subst (λ k. Acts (Ok tt) m k after (record { before = taken; after = taken; faults = faults; new_faults = faults })) (sym e) (none, made, subst (λ t. Takes taken t taken) (sym quiet) (nothing_more taken), refl)
+acts_quietly : (m after : Mesh) (command is : Command) (taken : Option (List ℕ)) (faults : ℕ) → command ≡ is → refusal m is ≡ None → text_of m is ≡ [] → after ≡ mesh_after m is → Acts (Ok tt) m command after (quiet taken faults)
+acts_quietly m after command is taken faults e none silent made =
+    subst (λ k. Acts (Ok tt) m k after (quiet taken faults)) (sym e) (none, made, record { takes = subst (λ t. Takes taken t taken) (sym silent) (nothing_more taken); calm = refl })
   where
     nothing_more : (taken : Option (List ℕ)) → Takes taken [] taken
     nothing_more None = tt
     nothing_more (Some bytes) = ap Some (sym (append-nil bytes))
 
--- an advect
-pub acts_changing : (result : Result (Unit {0}) Cause) (m after : Mesh) (command is : Command) (taken : Option (List ℕ)) (faults : ℕ) → command ≡ is → text_of m is ≡ [] → Changes result m is after →
-    Acts result m command after (record { before = taken; after = taken; faults = faults; new_faults = faults })
-acts_changing (Ok done) m after command is taken faults e quiet changes = acts_quietly m after command is taken faults e changes.0 quiet changes.1
-acts_changing (Err cause) m after command is taken faults e quiet changes =
-    subst (λ k. Acts (Err cause) m k after (record { before = taken; after = taken; faults = faults; new_faults = faults })) (sym e) (changes.1, by cause changes.0, (λ memory. absurd (other cause changes.0 memory)))
-  where
-    same_reason : (a b : Refusal) (o : Option Refusal) → o ≡ Some b → Some a ≡ Some b → o ≡ Some a
-    same_reason a b o h k = h ∙ sym k
+-- a command that does not need the sink leaves it
+leaves_quiet : (stopper : StoppedBy) (m : Mesh) (command : Command) (text : List ℕ) (taken : Option (List ℕ)) (faults : ℕ) → needs command ≢ TheSink → MayStop stopper m command → Leaves stopper text (quiet taken faults)
+leaves_quiet (by.Mesh why) m command text taken faults silent may = record { taken = refl; calm = refl }
+leaves_quiet by.Sink m command text taken faults silent may = absurd (silent may.0)
+leaves_quiet by.Memory m command text taken faults silent may = record { taken = refl; calm = refl }
 
-    by : (cause : Cause) → Refuses cause m is → IsCause cause m is (record { before = taken; after = taken; faults = faults; new_faults = faults })
-    by (causes.Range stop) refuses = (same_reason _ _ _ refuses.1 refuses.2, record { taken = refl; calm = refl })
-    by (causes.Courant speeds) refuses = (same_reason _ _ _ refuses.1 refuses.2, record { taken = refl; calm = refl })
-    by (causes.Level stop) refuses = (same_reason _ _ _ refuses.1 refuses.2, record { taken = refl; calm = refl })
-    by (causes.PlaceBlock at) refuses = (same_reason _ _ _ refuses.1 refuses.2, record { taken = refl; calm = refl })
-    by (causes.Blocks count) refuses = (same_reason _ _ _ refuses.1 refuses.2, record { taken = refl; calm = refl })
-    by causes.WriteFault refuses = absurd (let odd = refuses.2 in cc)
-    by causes.OutOfMemory refuses = absurd (let odd = refuses.2 in cc)
-
-    other : (cause : Cause) → Refuses cause m is → cause ≢ causes.OutOfMemory
-    other (causes.Range stop) refuses h = cc
-    other (causes.Courant speeds) refuses h = cc
-    other (causes.Level stop) refuses h = cc
-    other (causes.PlaceBlock at) refuses h = cc
-    other (causes.Blocks count) refuses h = cc
-    other causes.WriteFault refuses h = cc
-    other causes.OutOfMemory refuses h = let odd = refuses.2 in cc
+-- a command that prints nothing
+pub acts_changing : (result : Result (Unit {0}) Cause) (m after : Mesh) (command is : Command) (taken : Option (List ℕ)) (faults : ℕ) → command ≡ is → needs is ≢ TheSink → text_of m is ≡ [] → Changes result m is after →
+    Acts result m command after (quiet taken faults)
+acts_changing (Ok done) m after command is taken faults e unread silent changes = acts_quietly m after command is taken faults e changes.0 silent changes.1
+acts_changing (Err cause) m after command is taken faults e unread silent changes =
+    subst (λ k. Acts (Err cause) m k after (quiet taken faults)) (sym e) (changes.1, (changes.0, leaves_quiet (stopped_by cause) m is (text_of m is) taken faults unread changes.0))
 
 -- a command that prints
-pub acts_printing : (printed : Result (Unit {0}) Failed) (result : Result (Unit {0}) Cause) (m after : Mesh) (command is : Command) (w : Written) → command ≡ is → refusal m is ≡ None → mesh_after m is ≡ m →
+pub acts_printing : (printed : Result (Unit {0}) Failed) (result : Result (Unit {0}) Cause) (m after : Mesh) (command is : Command) (w : Written) → command ≡ is → needs is ≡ TheSink → refusal m is ≡ None → mesh_after m is ≡ m →
     Prints printed w.before (text_of m is) w.after w.faults w.new_faults → MatchResult printed (λ done. result ≡ Ok tt) (λ failed. result ≡ Err causes.WriteFault) → after ≡ m → Acts result m command after w
-acts_printing (Ok done) result m after command is w e none same prints told stays = subst (λ k. Acts result m k after w) (sym e) (subst (λ r. Acts r m is after w) (sym told) (none, stays ∙ sym same, prints.0, prints.1))
-acts_printing (Err failed) result m after command is w e none same prints told stays = subst (λ k. Acts result m k after w) (sym e) (subst (λ r. Acts r m is after w) (sym told) (stays, (none, prints.0, prints.1), (λ h. cc)))
-
--- a regrid
-pub acts_regrowing : (result : Result (Unit {0}) Cause) (m after : Mesh) (command : Command) (taken : Option (List ℕ)) (faults : ℕ) → command ≡ Regrid → Regrows result m after →
-    Acts result m command after (record { before = taken; after = taken; faults = faults; new_faults = faults })
-acts_regrowing (Ok done) m after command taken faults e told = acts_quietly m after command Regrid taken faults e told.0 refl told.1
-acts_regrowing (Err cause) m after command taken faults e told =
-    subst (λ k. Acts (Err cause) m k after (record { before = taken; after = taken; faults = faults; new_faults = faults })) (sym e) (told.1, by cause told.0, (λ memory. refl))
-  where
-    same_reason : (a b : Refusal) (o : Option Refusal) → o ≡ Some b → Some a ≡ Some b → o ≡ Some a
-    same_reason a b o h k = h ∙ sym k
-
-    by : (cause : Cause) → (cause ≢ causes.OutOfMemory → Refuses cause m Regrid) → IsCause cause m Regrid (record { before = taken; after = taken; faults = faults; new_faults = faults })
-    by (causes.Range stop) refuses = let r = refuses (λ h. cc) in (same_reason _ _ _ r.1 r.2, record { taken = refl; calm = refl })
-    by (causes.Courant speeds) refuses = let r = refuses (λ h. cc) in (same_reason _ _ _ r.1 r.2, record { taken = refl; calm = refl })
-    by (causes.Level stop) refuses = let r = refuses (λ h. cc) in (same_reason _ _ _ r.1 r.2, record { taken = refl; calm = refl })
-    by (causes.PlaceBlock at) refuses = let r = refuses (λ h. cc) in (same_reason _ _ _ r.1 r.2, record { taken = refl; calm = refl })
-    by (causes.Blocks count) refuses = let r = refuses (λ h. cc) in (same_reason _ _ _ r.1 r.2, record { taken = refl; calm = refl })
-    by causes.WriteFault refuses = absurd (let r = refuses (λ h. cc) in let odd = r.2 in cc)
-    by causes.OutOfMemory refuses = record { taken = refl; calm = refl }
+acts_printing (Ok done) result m after command is w e sink none same prints told stays = subst (λ k. Acts result m k after w) (sym e) (subst (λ r. Acts r m is after w) (sym told) (none, stays ∙ sym same, record { takes = prints.0; calm = prints.1 }))
+acts_printing (Err failed) result m after command is w e sink none same prints told stays = subst (λ k. Acts result m k after w) (sym e) (subst (λ r. Acts r m is after w) (sym told) (stays, ((sink, none), record { takes = prints.0; rose = prints.1 })))

@@ -11,7 +11,7 @@ use Rattle.mesh_model.specs.Fields.Setting.{with_marks}
 use Rattle.mesh_model.specs.Run.Stops.{refusal}
 use Rattle.mesh_model.specs.Run.Texts.{total_text, variable_text}
 use Rattle.mesh_model.specs.Fields.VariableNames.{VariableNames}
-use Rattle.amr_engine.specs.declared.engine.Cause.{Cause}
+use Rattle.amr_engine.specs.declared.cause.Cause.{Cause}
 use Rattle.amr_engine.specs.declared.engine.Engine.{Engine}
 use Rattle.amr_engine.specs.EngineMesh.{engine_mesh}
 use Rattle.amr_engine.specs.Plain.{contents_of, declared_of, derefine_now, grid_now, plain, refine_now, values_of}

@@ -1,8 +1,9 @@
 -- Marks on the leaves of a tree, and what a mesh with them has.
 use Rattle.std.proofs.Common.{◌≡◌, ℕ, ◌<◌, ◌≤◌, Bool, true, false, ◌||◌, nat_lt, nat_le, List, length, Some, None, refl, sym, ap, ap₂, ◌∙◌, arith, lt-ltb}
 use Rattle.std.proofs.lemmas.Bool.{le-ltb, lt-leb, or_left}
+use Rattle.std.specs.Option.{option_or}
 use Rattle.amr_num.specs.declared.BlockAt.{BlockAt}
-use Rattle.mesh_model.specs.declared.language.script.Command.TheVariants.{MarkDerefine, MarkRefine}
+use Rattle.mesh_model.specs.declared.language.script.Command.TheVariants.{MarkDerefine, MarkRefine, Regrid}
 use Rattle.mesh_model.specs.declared.run.stops.LevelStop.{LevelStop}
 use Rattle.mesh_model.specs.declared.run.stops.Refusal.TheVariants as refusals
 use Rattle.mesh_model.specs.Geometry.Limits.{most_nodes}
@@ -10,10 +11,11 @@ use Rattle.mesh_model.specs.Tree.Order.{nodes}
 use Rattle.mesh_model.specs.Tree.Kinds.{Grid, is_leaf_block}
 use Rattle.mesh_model.specs.Fields.Plain.{Mesh}
 use Rattle.mesh_model.specs.Tree.Regrown.{new_grid, regrown}
+use Rattle.mesh_model.specs.Fields.Regrid.{regrid}
 use Rattle.mesh_model.specs.Run.Runs.{mesh_after}
 use Rattle.mesh_model.specs.Geometry.Blocks.{is_same_block}
 use Rattle.mesh_model.specs.Fields.Setting.{mark_derefine, mark_refine}
-use Rattle.mesh_model.specs.Run.Stops.{nodes_of, refusal}
+use Rattle.mesh_model.specs.Run.Stops.{nodes_of, range_of, refusal}
 use Rattle.mesh_model.proofs.TreeLemmas.Tiling.{leaf_says, leaf_shows}
 use Rattle.block_tree.specs.declared.marks.Marks.{Marks}
 use Rattle.block_tree.specs.declared.tree.Tree.{Tree}
@@ -24,9 +26,7 @@ use Rattle.block_tree.proofs.Flags.{same_shows}
 use Rattle.refine_marks.specs.declared.plan.Plan.{Plan}
 use Rattle.refine_marks.specs.Flags.{AddsBlock, IsSameSet}
 use Rattle.refine_marks.specs.Planned.{HasMarks, merged_by, refined_by}
-use Rattle.amr_engine.specs.declared.engine.Cause.TheVariants as causes
 use Rattle.amr_engine.specs.Marking.{AreMarks}
-use Rattle.amr_engine.specs.Stopping.{Refuses}
 
 pub marks_are : (g : Grid) (marks : Marks) → AreMarks g marks → IsMarksOf g marks
 marks_are g marks are = record {
@@ -47,29 +47,29 @@ module _ (m : Mesh) (tree : Tree) (old : Marks) (at : BlockAt) (fits : HasMarks 
   leaf_in b h = ap (λ g. is_leaf_block g at) fits.grid ∙ h
 
   -- no leaf is named
-  pub no_leaf_refine : is_leaf_block (grid_of tree) at ≡ false → Refuses (causes.PlaceBlock at) m (MarkRefine at)
+  pub no_leaf_refine : is_leaf_block (grid_of tree) at ≡ false → refusal m (MarkRefine at) ≡ Some (refusals.PlaceBlock at)
   unfolding refusal
-  no_leaf_refine h = (refusals.PlaceBlock at, rw (leaf_in false h) refl, refl)
+  no_leaf_refine h = rw (leaf_in false h) refl
 
-  pub no_leaf_derefine : is_leaf_block (grid_of tree) at ≡ false → Refuses (causes.PlaceBlock at) m (MarkDerefine at)
+  pub no_leaf_derefine : is_leaf_block (grid_of tree) at ≡ false → refusal m (MarkDerefine at) ≡ Some (refusals.PlaceBlock at)
   unfolding refusal
-  no_leaf_derefine h = (refusals.PlaceBlock at, rw (leaf_in false h) refl, refl)
+  no_leaf_derefine h = rw (leaf_in false h) refl
 
   module _ (leaf : is_leaf_block (grid_of tree) at ≡ true) where
     -- the level is at its limit
-    pub too_fine : (stop : LevelStop) → at.level ≡ (grid_of tree).shape.max → stop ≡ record { level = at.level; limit = (grid_of tree).shape.max } → Refuses (causes.Level stop) m (MarkRefine at)
+    pub too_fine : (stop : LevelStop) → at.level ≡ (grid_of tree).shape.max → stop ≡ record { level = at.level; limit = (grid_of tree).shape.max } → refusal m (MarkRefine at) ≡ Some (refusals.Level stop)
     unfolding refusal
     too_fine stop deep is =
         let most : m.grid.shape.max ≡ (grid_of tree).shape.max = ap (λ g. g.shape.max) fits.grid in
         let not_below : nat_lt at.level m.grid.shape.max ≡ false = le-ltb at.level m.grid.shape.max (omega (arith, most, deep)) in
-        (refusals.Level (record { level = at.level; limit = m.grid.shape.max }), rw (leaf_in true leaf, not_below) refl, ap (λ s. Some (refusals.Level s)) (is ∙ ap (λ n. record { level = at.level; limit = n }) (sym most)))
+        rw (leaf_in true leaf, not_below) (ap (λ s. Some (refusals.Level s)) (sym (is ∙ ap (λ n. record { level = at.level; limit = n }) (sym most))))
 
-    pub too_coarse : (stop : LevelStop) → at.level ≤ (grid_of tree).shape.min → stop ≡ record { level = at.level; limit = (grid_of tree).shape.min } → Refuses (causes.Level stop) m (MarkDerefine at)
+    pub too_coarse : (stop : LevelStop) → at.level ≤ (grid_of tree).shape.min → stop ≡ record { level = at.level; limit = (grid_of tree).shape.min } → refusal m (MarkDerefine at) ≡ Some (refusals.Level stop)
     unfolding refusal
     too_coarse stop high is =
         let least : m.grid.shape.min ≡ (grid_of tree).shape.min = ap (λ g. g.shape.min) fits.grid in
         let not_above : nat_lt m.grid.shape.min at.level ≡ false = le-ltb m.grid.shape.min at.level (omega (arith, least, high)) in
-        (refusals.Level (record { level = at.level; limit = m.grid.shape.min }), rw (leaf_in true leaf, not_above) refl, ap (λ s. Some (refusals.Level s)) (is ∙ ap (λ n. record { level = at.level; limit = n }) (sym least)))
+        rw (leaf_in true leaf, not_above) (ap (λ s. Some (refusals.Level s)) (sym (is ∙ ap (λ n. record { level = at.level; limit = n }) (sym least))))
 
     -- the mark is set
     module _ (new : Marks) (marks : IsMarksOf (grid_of tree) new) where
@@ -109,9 +109,11 @@ grid_is m tree marks plan refine merge fits new refine_is merge_is =
     new ∙ ap (λ g. regrown g (refined_by g plan) (merged_by g plan)) fits.grid ∙ ap₂ (grid_after (grid_of tree)) (sym refine_is) (sym merge_is)
 
 -- there would be too many nodes
-pub too_many : (m : Mesh) (g : Grid) (count : ℕ) → new_grid m ≡ g → (count ≡ length (nodes g.leaves)) × (most_nodes g.shape < count) → nodes_of m ≡ Some (refusals.Blocks count)
+pub too_many : (m : Mesh) (g : Grid) (count : ℕ) → new_grid m ≡ g → (count ≡ length (nodes g.leaves)) × (most_nodes g.shape < count) → refusal m Regrid ≡ Some (refusals.Blocks count)
+unfolding refusal
 too_many m g count is told =
     let many : length (nodes (new_grid m).leaves) ≡ count = ap (λ h. length (nodes h.leaves)) is ∙ sym told.0 in
     let same : most_nodes m.grid.shape ≡ most_nodes g.shape = ap (λ h. most_nodes h.shape) is in
     let over : nat_le (length (nodes (new_grid m).leaves)) (most_nodes m.grid.shape) ≡ false = lt-leb (length (nodes (new_grid m).leaves)) (most_nodes m.grid.shape) (let more = told.1 in omega (arith, many, same, more)) in
-    rw over (ap (λ n. Some (refusals.Blocks n)) many)
+    let stops : nodes_of m ≡ Some (refusals.Blocks count) = rw over (ap (λ n. Some (refusals.Blocks n)) many) in
+    ap (λ o. option_or o (range_of (regrid m))) stops

@@ -2,7 +2,7 @@
 use Rattle.std.proofs.Common.{◌≡◌, ℕ, ◌^◌, ◌<◌, ◌≤◌, Bool, true, false, ◌&&◌, if◌then◌else◌, List, [], ◌∷◌, Option, None, Some, Result, Ok, Err, length, get_or, find, ℤ, pos, unsigned_abs, refl, sym, ap, ap₂, subst, ◌∙◌, arith, inl, inr}
 use Rattle.std.proofs.Math.ListN.{get_or-eq_default}
 use Rattle.std.proofs.lemmas.Bool.{and_right, cases_lt, le-ltb, le-leb}
-use Rattle.std.specs.Option.{option_map, option_or}
+use Rattle.std.specs.Option.{option_map}
 use Rattle.amr_num.specs.Numbers.{Within}
 use Rattle.amr_num.specs.declared.BlockAt.{BlockAt}
 use Rattle.amr_num.specs.declared.CellAt.{CellAt}
@@ -24,21 +24,22 @@ use Rattle.mesh_model.specs.Fields.Regrid.{regrid}
 use Rattle.mesh_model.specs.Run.Runs.{mesh_after}
 use Rattle.mesh_model.specs.Fields.Setting.{mark_derefine, mark_refine, with_marks}
 use Rattle.mesh_model.specs.Tree.Start.{start_grid}
-use Rattle.mesh_model.specs.Run.Stops.{nodes_of, range_of, refusal}
+use Rattle.mesh_model.specs.Run.Stops.{refusal}
 use Rattle.mesh_model.specs.Tree.ValidGrid.{FewNodes}
 use Rattle.mesh_model.specs.Fields.Valid.{InRange, ValidMesh}
 use Rattle.mesh_model.proofs.FieldLemmas.LeafSums.{off_leaf}
 use Rattle.mesh_model.proofs.FieldLemmas.ZeroViews.{no_cell_views, no_edge_views, no_face_views}
 use Rattle.block_tree.specs.Marked.{derefine_of, refine_of}
 use Rattle.block_tree.proofs.Facts.{known}
-use Rattle.amr_engine.specs.declared.engine.Cause.{Cause}
-use Rattle.amr_engine.specs.declared.engine.Cause.TheVariants as causes
+use Rattle.amr_engine.specs.declared.cause.Cause.{Cause}
+use Rattle.amr_engine.specs.declared.cause.StoppedBy.{StoppedBy}
+use Rattle.amr_engine.specs.declared.cause.StoppedBy.TheVariants as by
 use Rattle.amr_engine.specs.declared.hierarchy.Hierarchy.{Hierarchy}
 use Rattle.amr_engine.specs.Contents.{IsUniform, KeepsLimits, content_in, place}
 use Rattle.amr_engine.specs.EngineMesh.{engine_mesh}
 use Rattle.amr_engine.specs.Growth as growth
 use Rattle.amr_engine.specs.Growth.{HasHierarchy, Regrids, grid_in}
-use Rattle.amr_engine.specs.Stopping.{Changes, Regrows}
+use Rattle.amr_engine.specs.Stopping.{Changes, MayStop, stopped_by}
 use Rattle.amr_engine.specs.UniformMesh.{uniform_mesh}
 use Rattle.amr_engine.proofs.Marking.{marks_are}
 
@@ -55,11 +56,17 @@ pub no_marks : (d : Declared) (contents : List (List ℤ)) (outs : List ℤ) (re
 unfolding uniform_mesh
 no_marks d contents outs refine derefine r t = ap₂ (with_marks (uniform_mesh d contents outs)) (λ i b. r b i) (λ i b. t b i)
 
+-- what may stop a command goes by whether the mesh refuses it
+stops_as : (stopper : StoppedBy) (m other : Mesh) (command : Command) → refusal other command ≡ refusal m command → MayStop stopper m command → MayStop stopper other command
+stops_as (by.Mesh why) m other command same may = same ∙ may
+stops_as by.Sink m other command same may = (may.0, same ∙ may.1)
+stops_as by.Memory m other command same may = may
+
 -- what changes contents alone changes them beside marks
 changes_beside : (result : Result (Unit {0}) Cause) (v after : Mesh) (refine derefine : BlockAt → Bool) (command : Command) → refusal (with_marks v refine derefine) command ≡ refusal v command → mesh_after (with_marks v refine derefine) command ≡ with_marks (mesh_after v command) refine derefine →
     Changes result v command after → Changes result (with_marks v refine derefine) command (with_marks after refine derefine)
 changes_beside (Ok done) v after refine derefine command same made changes = (same ∙ changes.0, ap (λ m. with_marks m refine derefine) changes.1 ∙ sym made)
-changes_beside (Err cause) v after refine derefine command same made changes = ((changes.0.0, same ∙ changes.0.1, changes.0.2), ap (λ m. with_marks m refine derefine) changes.1)
+changes_beside (Err cause) v after refine derefine command same made changes = (stops_as (stopped_by cause) v (with_marks v refine derefine) command same changes.0, ap (λ m. with_marks m refine derefine) changes.1)
 
 pub changes_lifted : (result : Result (Unit {0}) Cause) (d : Declared) (g : Grid) (contents new_contents : List (List ℤ)) (outs new_outs : List ℤ) (refine derefine : BlockAt → Bool) (command : Command) → g ≡ start_grid d.shape →
     refusal (with_marks (uniform_mesh d contents outs) refine derefine) command ≡ refusal (uniform_mesh d contents outs) command →
@@ -207,31 +214,15 @@ module _ (d : Declared) (contents : List (List ℤ)) (outs : List ℤ) (old : Hi
   unfolding refusal
   few_allowed few = rw (le-leb (length (nodes (new_grid before).leaves)) (most_nodes before.grid.shape) few) (ap (option_map refusals.Range) (in_range_none (regrid before) in_range_after))
 
-  many_refused : (count : ℕ) → nodes_of before ≡ Some (refusals.Blocks count) → refusal before Regrid ≡ Some (refusals.Blocks count)
-  unfolding refusal
-  many_refused count h = ap (λ o. option_or o (range_of (regrid before))) h
-
-  pub regrows : (result : Result (Unit {0}) Cause) (new : Hierarchy) → Regrids result before new → Regrows result before (mesh_in d contents outs new)
+  pub regrows : (result : Result (Unit {0}) Cause) (new : Hierarchy) → Regrids result before new → Changes result before Regrid (mesh_in d contents outs new)
   regrows (Ok done) new told = (few_allowed told.1, regrid_is new told.0 (told.2 (regrid before) refl (λ b. refl) (λ b. refl)))
-  regrows (Err (causes.Blocks count)) new told = ((λ other. (refusals.Blocks count, many_refused count told.0, refl)), same_marks d contents outs old new told.1)
-  regrows (Err causes.OutOfMemory) new told = ((λ other. absurd (other refl)), same_marks d contents outs old new told)
-  regrows (Err (causes.Range stop)) new told = absurd told
-  regrows (Err (causes.Courant speeds)) new told = absurd told
-  regrows (Err (causes.Level stop)) new told = absurd told
-  regrows (Err (causes.PlaceBlock at)) new told = absurd told
-  regrows (Err causes.WriteFault) new told = absurd told
+  regrows (Err cause) new told = (told.0, same_marks d contents outs old new told.1)
 
   -- the shape stays
   pub same_shape : (result : Result (Unit {0}) Cause) (new : Hierarchy) → Regrids result before new → (grid_in new).shape ≡ (grid_in old).shape
   unfolding engine_mesh
   same_shape (Ok done) new told = ap (λ g. g.shape) told.0
-  same_shape (Err (causes.Blocks count)) new told = sym (ap (λ g. g.shape) told.1.grid)
-  same_shape (Err causes.OutOfMemory) new told = sym (ap (λ g. g.shape) told.grid)
-  same_shape (Err (causes.Range stop)) new told = absurd told
-  same_shape (Err (causes.Courant speeds)) new told = absurd told
-  same_shape (Err (causes.Level stop)) new told = absurd told
-  same_shape (Err (causes.PlaceBlock at)) new told = absurd told
-  same_shape (Err causes.WriteFault) new told = absurd told
+  same_shape (Err cause) new told = sym (ap (λ g. g.shape) told.1.grid)
 
 -- ---- validity
 

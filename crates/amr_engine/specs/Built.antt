@@ -1,5 +1,5 @@
 -- What is built: scripts that ask for anything else are not run.
-use Rattle.std.specs.Prelude.{◌≡◌, ℕ, Bool, true, false, ◌&&◌, ◌==◌, nat_le, is_none, length}
+use Rattle.std.specs.Prelude.{◌≡◌, ◌⊎◌, ℕ, Bool, true, false, ◌&&◌, ◌==◌, nat_le, is_none, length}
 use Rattle.std.specs.List.{list_all}
 use Rattle.mesh_model.specs.declared.language.script.Command.{Command}
 use Rattle.mesh_model.specs.declared.language.script.Command.TheVariants.{FillAll, FillBox, FaceSet, EdgeSet, Uniform, MarkRefine, MarkDerefine, RefineWhere, DerefineWhere, Regrid, Advect, Curl, Induct, Checkpoint, PrintSize, PrintMesh, PrintTree, PrintRanks, PrintTrace, PrintVar, PrintGuards, Total, NetFlux}
@@ -45,3 +45,7 @@ is_built s ranks workers = is_built_mesh s.declared && nat_le ranks 1 && nat_le 
 -- the line is one that a built script may have
 abbrev pub IsBuiltLine : Declared → Line → Type 0
 IsBuiltLine d line = is_built_command d line.command ≡ true
+
+-- no definition says yet what the command prints, or what it leaves on the disk
+abbrev pub IsUndefined : Command → Type 0
+IsUndefined command = (command ≡ PrintRanks) ⊎ ((command ≡ PrintTrace) ⊎ (command ≡ Checkpoint))

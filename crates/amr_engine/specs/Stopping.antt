@@ -1,43 +1,42 @@
 -- What a command does, or why it stops.
-use Rattle.std.specs.Prelude.{◌≡◌, ◌≢◌, ℕ, List, Option, Some, None, Result, Ok, Err, ℤ}
+use Rattle.std.specs.Prelude.{◌≡◌, ℕ, List, Option, Some, None, Result, Ok, Err, ℤ}
 use Rattle.amr_engine.specs.declared.advection.Hindrance.{Hindrance}
 use Rattle.amr_engine.specs.declared.advection.Hindrance.TheVariants.{TooFast, Content, FlowedOut}
-use Rattle.amr_engine.specs.declared.engine.Cause.{Cause}
-use Rattle.amr_engine.specs.declared.engine.Cause.TheVariants.{Range, Courant, Level, PlaceBlock, Blocks, WriteFault, OutOfMemory}
+use Rattle.amr_engine.specs.declared.cause.Cause.{Cause}
+use Rattle.amr_engine.specs.declared.cause.Cause.TheVariants.{Range, Courant, Level, Place, PlaceBlock, Blocks, WriteFault, OutOfMemory}
+use Rattle.amr_engine.specs.declared.cause.StoppedBy.{StoppedBy}
+use Rattle.amr_engine.specs.declared.cause.StoppedBy.TheVariants as by
 use Rattle.mesh_model.specs.declared.language.script.Command.{Command}
-use Rattle.mesh_model.specs.declared.language.script.Command.TheVariants.{Regrid}
 use Rattle.mesh_model.specs.declared.fields.values.Group.TheVariants.{Cell}
-use Rattle.mesh_model.specs.declared.run.stops.Refusal.{Refusal}
 use Rattle.mesh_model.specs.declared.run.stops.Refusal.TheVariants as refusals
 use Rattle.mesh_model.specs.declared.fields.spot.Spot.TheVariants as spots
 use Rattle.mesh_model.specs.Fields.Plain.{Mesh}
-use Rattle.mesh_model.specs.Run.Runs.{mesh_after, text_of}
+use Rattle.mesh_model.specs.Run.Runs.{TheMemory, TheSink, mesh_after, needs, text_of}
 use Rattle.mesh_model.specs.Run.Stops.{refusal}
 use Rattle.outside_io.specs.Moved.{Rose, Takes, TakesPrefix}
 
--- the refusal of the mesh that a cause tells; a fault of the sink and want of memory are none
-abbrev pub refusal_of : Cause → Option Refusal
-refusal_of (Range stop) = Some (refusals.Range stop)
-refusal_of (Courant speeds) = Some (refusals.Courant speeds)
-refusal_of (Level stop) = Some (refusals.Level stop)
-refusal_of (PlaceBlock at) = Some (refusals.PlaceBlock at)
-refusal_of (Blocks count) = Some (refusals.Blocks count)
-refusal_of WriteFault = None
-refusal_of OutOfMemory = None
+-- what stopped a command, as its cause tells it: here alone causes are told apart
+abbrev pub stopped_by : Cause → StoppedBy
+stopped_by (Range stop) = by.Mesh (refusals.Range stop)
+stopped_by (Courant speeds) = by.Mesh (refusals.Courant speeds)
+stopped_by (Level stop) = by.Mesh (refusals.Level stop)
+stopped_by (Place spot) = by.Mesh (refusals.Place spot)
+stopped_by (PlaceBlock at) = by.Mesh (refusals.PlaceBlock at)
+stopped_by (Blocks count) = by.Mesh (refusals.Blocks count)
+stopped_by WriteFault = by.Sink
+stopped_by OutOfMemory = by.Memory
 
--- the cause is why the mesh refuses the command
-abbrev pub Refuses : Cause → Mesh → Command → Type 0
-Refuses cause m command = (why : Refusal) × (refusal m command ≡ Some why) × (refusal_of cause ≡ Some why)
+-- what may stop a command: the mesh that refuses it, for this reason; the sink, where the command needs it and is not refused; or
+-- want of memory, where the command needs some
+abbrev pub MayStop : StoppedBy → Mesh → Command → Type 0
+MayStop (by.Mesh why) m command = refusal m command ≡ Some why
+MayStop by.Sink m command = (needs command ≡ TheSink) × (refusal m command ≡ None)
+MayStop by.Memory m command = needs command ≡ TheMemory
 
--- a command that prints nothing is done, and makes this mesh of that one; or it is refused, and leaves it
+-- a command that prints nothing is done, and makes this mesh of that one; or it is stopped, and leaves it
 abbrev pub Changes : Result (Unit {0}) Cause → Mesh → Command → Mesh → Type 0
 Changes (Ok done) before command after = (refusal before command ≡ None) × (after ≡ mesh_after before command)
-Changes (Err cause) before command after = Refuses cause before command × (after ≡ before)
-
--- a regrid: the same, but that it may also want memory, which leaves the mesh
-abbrev pub Regrows : Result (Unit {0}) Cause → Mesh → Mesh → Type 0
-Regrows (Ok done) before after = (refusal before Regrid ≡ None) × (after ≡ mesh_after before Regrid)
-Regrows (Err cause) before after = (cause ≢ OutOfMemory → Refuses cause before Regrid) × (after ≡ before)
+Changes (Err cause) before command after = MayStop (stopped_by cause) before command × (after ≡ before)
 
 -- the sink before and after, by the bytes that it took and its faults
 pub record Written : Type 0 where
@@ -51,21 +50,30 @@ pub record IsUntouched (w : Written) : Type 0 where
   pub taken : w.after ≡ w.before
   pub calm : w.new_faults ≡ w.faults
 
--- why a command stopped: the mesh refuses it, which writes nothing; the sink failed after the first bytes of the text of a command that
--- is not refused; or memory was wanting before any of it
-abbrev pub IsCause : Cause → Mesh → Command → Written → Type 0
-IsCause (Range stop) m command w = (refusal m command ≡ Some (refusals.Range stop)) × IsUntouched w
-IsCause (Courant speeds) m command w = (refusal m command ≡ Some (refusals.Courant speeds)) × IsUntouched w
-IsCause (Level stop) m command w = (refusal m command ≡ Some (refusals.Level stop)) × IsUntouched w
-IsCause (PlaceBlock at) m command w = (refusal m command ≡ Some (refusals.PlaceBlock at)) × IsUntouched w
-IsCause (Blocks count) m command w = (refusal m command ≡ Some (refusals.Blocks count)) × IsUntouched w
-IsCause WriteFault m command w = (refusal m command ≡ None) × TakesPrefix w.before (text_of m command) w.after × Rose w.faults w.new_faults
-IsCause OutOfMemory m command w = IsUntouched w
+-- the text was written, without a fault
+pub record Wrote (text : List ℕ) (w : Written) : Type 0 where
+  pub takes : Takes w.before text w.after
+  pub calm : w.new_faults ≡ w.faults
 
--- what a command does: it is not refused, makes the mesh after it and prints its text; or it stops, and leaves the mesh
+-- the first bytes of the text were written, and then the sink failed
+pub record WrotePart (text : List ℕ) (w : Written) : Type 0 where
+  pub takes : TakesPrefix w.before text w.after
+  pub rose : Rose w.faults w.new_faults
+
+-- what a command that was stopped wrote of its text: nothing, unless the sink failed within it
+abbrev pub Leaves : StoppedBy → List ℕ → Written → Type 0
+Leaves (by.Mesh why) text w = IsUntouched w
+Leaves by.Sink text w = WrotePart text w
+Leaves by.Memory text w = IsUntouched w
+
+-- why a command stopped, and what it had written by then
+abbrev pub IsCause : Cause → Mesh → Command → Written → Type 0
+IsCause cause m command w = MayStop (stopped_by cause) m command × Leaves (stopped_by cause) (text_of m command) w
+
+-- what a command does: it is not refused, makes the mesh after it and prints its text; or it is stopped, and leaves the mesh
 abbrev pub Acts : Result (Unit {0}) Cause → Mesh → Command → Mesh → Written → Type 0
-Acts (Ok done) before command after w = (refusal before command ≡ None) × (after ≡ mesh_after before command) × Takes w.before (text_of before command) w.after × (w.new_faults ≡ w.faults)
-Acts (Err cause) before command after w = (after ≡ before) × IsCause cause before command w × (cause ≡ OutOfMemory → command ≡ Regrid)
+Acts (Ok done) before command after w = (refusal before command ≡ None) × (after ≡ mesh_after before command) × Wrote (text_of before command) w
+Acts (Err cause) before command after w = (after ≡ before) × IsCause cause before command w
 
 -- the cause that tells why an advect of a variable at these speeds is hindered
 abbrev pub cause_told : ℕ → List ℤ → Hindrance → Cause

@@ -1,46 +1,19 @@
 //! The mesh of a run, and each command on it.
 
-use crate::advection::{Hindrance, try_step};
+use crate::advection::try_step;
+use crate::cause::{Cause, Stop};
 use crate::contents::{fill_all, fill_box, total, zero_list, zero_outs, zeros};
 use crate::hierarchy::Hierarchy;
 use crate::values::CellValues;
 use amr_num::{BlockAt, OutOfMemory};
 use amr_report::{print_mesh, print_size, print_total, print_tree, print_var};
+use mesh_model::Group;
 use mesh_model::language::names::Names;
 use mesh_model::language::script::{Command, Declared, Line};
-use mesh_model::run::stops::{LevelStop, Refusal};
-use mesh_model::{Group, RangeStop, Spot};
 use outside_io::Failed;
 use outside_io::disk::Disk;
 use outside_io::sink::Sink;
 use std::alloc::Global;
-
-/// Why a command stopped.
-#[derive(Clone, Copy, Debug, PartialEq, Eq)]
-pub enum Cause {
-    /// It would store a number out of range: the first of them in the walk through the mesh.
-    Range(RangeStop),
-    /// Its speeds move more than one finest cell a step.
-    Courant([i64; 3]),
-    /// It marks a leaf at the limit of levels.
-    Level(LevelStop),
-    /// It names no leaf.
-    PlaceBlock(BlockAt),
-    /// It would make more nodes than the limit: how many.
-    Blocks(u32),
-    /// The sink failed.
-    WriteFault,
-    /// Memory was refused.
-    OutOfMemory,
-}
-
-/// A command that was stopped: the number of its line, and why.
-#[derive(Clone, Copy, Debug, PartialEq, Eq)]
-pub struct Stop {
-    /// The line of the script, from 1.
-    pub line: u32,
-    pub cause: Cause,
-}
 
 /// A mesh on which the commands of a script are done: its tree with the marks, and for each cell variable one list of
 /// contents on level 0, by coordinate, and what has flowed out of it. A mesh with variables stays on level 0.
@@ -68,46 +41,6 @@ ghost use Rattle.mesh_model.specs.Tree.Start.{start_grid};
 ghost use Rattle.mesh_model.specs.Fields.Valid.{InRange, ValidMesh};
 ghost use Rattle.std.specs.Prelude.{◌≡◌, ◌<◌, ◌^◌, MatchResult, Ok, Err, length, map};
 
-/// The stop of a variable that would have a number out of range.
-fn out_of_range(var: u32, spot: Spot, value: i128) -> Cause
-    ensures { result ≡ Cause.Range (record { var = Group.Cell var; spot = spot; value = value }) }
-{
-    Cause::Range(RangeStop {
-        var: Group::Cell(var),
-        spot,
-        value,
-    })
-}
-
-impl Cause {
-    ghost use Rattle.amr_engine.specs.Stopping.{cause_told, refusal_of};
-
-    /// Why the mesh refuses the command. A fault of the sink and want of memory are no refusals.
-    pub fn refusal(self) -> Option<Refusal>
-        ensures { result ≡ refusal_of self }
-    {
-        match self {
-            Cause::Range(stop) => Some(Refusal::Range(stop)),
-            Cause::Courant(speeds) => Some(Refusal::Courant(speeds)),
-            Cause::Level(stop) => Some(Refusal::Level(stop)),
-            Cause::PlaceBlock(at) => Some(Refusal::PlaceBlock(at)),
-            Cause::Blocks(count) => Some(Refusal::Blocks(count)),
-            Cause::WriteFault | Cause::OutOfMemory => None,
-        }
-    }
-
-    /// Why an advect of the variable at the speeds stops.
-    fn of_advect(var: u32, speeds: [i64; 3], hindrance: Hindrance) -> Cause
-        ensures { result ≡ cause_told var speeds hindrance }
-    {
-        match hindrance {
-            Hindrance::TooFast => Cause::Courant(speeds),
-            Hindrance::Content(above) => out_of_range(var, Spot::Cell(above.cell), above.value),
-            Hindrance::FlowedOut(out) => out_of_range(var, Spot::Out, out),
-        }
-    }
-}
-
 /// A call that prints stops a command where the sink fails.
 fn written(printed: Result<(), Failed>) -> Result<(), Cause>
     ensures { MatchResult printed (λ done. result ≡ Ok tt) (λ failed. result ≡ Err Cause.WriteFault) }
@@ -123,7 +56,7 @@ impl Engine {
     ghost use Rattle.amr_engine.specs.Contents.{IsRoots};
     ghost use Rattle.amr_engine.specs.Plain.{declared_of, plain, values_of};
     ghost use Rattle.amr_report.specs.Printing.{Prints};
-    ghost use Rattle.amr_engine.specs.Stopping.{Acts, Changes, IsCause, Regrows};
+    ghost use Rattle.amr_engine.specs.Stopping.{Acts, Changes, IsCause};
     ghost use Rattle.mesh_model.specs.Language.Commands.{AreThree, IsBox, IsCellVariable, IsCommandOf, IsGroup, IsLeafNumber, IsLineOf};
     ghost use Rattle.mesh_model.specs.Fields.Fill.{fill_all as plain_fill_all, fill_box as plain_fill_box};
     ghost use Rattle.mesh_model.specs.Geometry.Limits.{IsShape};
@@ -178,7 +111,8 @@ impl Engine {
         ensures text { OnOk result (Takes (K.taken sink.old) (text_of (plain self.old) line.now.command) (K.taken sink.new)) }
         ensures calm { OnOk result (K.faults sink.new ≡ K.faults sink.old) }
 
-        // It stops exactly where the mesh refuses the command, or the sink fails, or memory is wanting; it leaves the mesh then.
+        // It stops exactly where the mesh refuses the command, or where what the command needs fails, be it the sink or memory; it
+        // leaves the mesh then.
         ensures allowed { OnOk result (refusal (plain self.old) line.now.command ≡ None) }
         ensures line { IfErr result (λ stop. stop.line ≡ line.now.number) }
         ensures cause { IfErr result (λ stop. IsCause stop.cause (plain self.old) line.now.command (record { before = K.taken sink.old; after = K.taken sink.new; faults = K.faults sink.old; new_faults = K.faults sink.new })) }
@@ -190,8 +124,7 @@ impl Engine {
         ensures positive { OnOk result (StaysPositive (plain self.old) line.now.command (plain self.new)) }
         ensures valid { ValidMesh (plain self.new) }
 
-        // Memory is wanting at a regrid alone, and no command calls the disk.
-        ensures memory { IfErr result (λ stop. stop.cause ≡ Cause.OutOfMemory → line.now.command ≡ Command.Regrid) }
+        // No command calls the disk, and what was declared stays.
         ensures disk { disk.new ≡ disk.old }
         ensures declared { declared_of self.new ≡ declared_of self.old }
     {
@@ -258,7 +191,7 @@ impl Engine {
     /// Refines and merges as the marks and the level rule ask, and takes the marks away, in a mesh without variables.
     fn regrid(&mut self) -> Result<(), Cause>
         requires bare { length (declared_of self.old).names.cells ≡ 0 }
-        ensures regrows { Regrows result (plain self.old) (plain self.new) }
+        ensures changes { Changes result (plain self.old) Command.Regrid (plain self.new) }
         ensures declared { declared_of self.new ≡ declared_of self.old }
     {
         self.hierarchy.regrid(self.alloc)

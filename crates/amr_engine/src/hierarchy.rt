@@ -6,7 +6,7 @@ ghost use Rattle.block_tree.specs.Marked.{room as room_of};
 ghost use Rattle.mesh_model.specs.Geometry.Limits.{most_nodes};
 ghost use Rattle.std.specs.Prelude.{◌≡◌};
 
-use crate::engine::Cause;
+use crate::cause::Cause;
 use amr_num::{BlockAt, OutOfMemory};
 use block_tree::{GrowStop, Marks, Tree};
 use mesh_model::Shape;

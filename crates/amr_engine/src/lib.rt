@@ -3,9 +3,11 @@
 
 mod advection;
 pub mod built;
+pub mod cause;
 mod contents;
 pub mod engine;
 mod hierarchy;
+pub mod laws;
 mod values;
 
 pub use mesh_model::Group;

@@ -5,19 +5,18 @@ use Rattle.amr_engine.specs.Built.{is_built}
 use Rattle.mesh_model.specs.Language.Grammar.{Fault, script_of}
 use Rattle.mesh_model.specs.Run.Runs.{Refused}
 use Rattle.outside_io.specs.Moved.{Rose, Takes}
-use Rattle.amr_engine.specs.Stopping.{Written}
+use Rattle.amr_engine.specs.Stopping.{Written, WrotePart}
 use Rattle.mesh_model.specs.declared.run.stops.Refusal as stops
 use Rattle.mesh_model.specs.declared.run.stops.Refusal.TheVariants as why
 use Rattle.mesh_model.specs.Fields.VariableNames.{VariableNames}
 use Rattle.amr_program.specs.declared.status.Status.{Status}
 use Rattle.amr_program.specs.declared.status.Status.TheVariants as status
-use Rattle.amr_program.specs.declared.program.TheConstants.{LIMIT}
 use Rattle.amr_program.specs.declared.refusal.Refusal.{Refusal}
 use Rattle.amr_program.specs.declared.refusal.Refusal.TheVariants as refusals
-use Rattle.amr_program.specs.Answer.{IsAccepted, IsAnswer, IsRefused, IsStoppedWith, MayPrint, MayWant, TookBeforeMemory, TookPart, admitted, answer_of, first_texts, ending, plain_answer, read_in, script_in, status_of, stop_in}
+use Rattle.amr_program.specs.Answer.{IsAccepted, IsAnswer, IsRefused, IsStoppedWith, MayPrint, MayWant, TookBeforeMemory, TookPart, admitted, answer_of, first_texts, ending, most_read, plain_answer, read_in, script_in, status_of, stop_in}
 use Rattle.amr_program.specs.Lines.{memory_line, read_line, words_line}
 use Rattle.amr_program.proofs.Commands.{at_first}
-use Rattle.amr_program.specs.Outcome.{Ended, Failed, Outcome, Source, WrotePart}
+use Rattle.amr_program.specs.Outcome.{Ended, Failed, Outcome, Source}
 
 -- ---- facts of a value that may be there
 
@@ -49,12 +48,8 @@ of_script status.OutOfMemory = false
 
 stops_with : (why : stops.Refusal) → (of_script (status_of why) ≡ true) × (status_of why ≢ status.Done) × (status_of why ≢ status.Script)
 unfolding of_script
-stops_with (why.Range stop) = (refl, (λ e. cc), (λ e. cc))
-stops_with (why.Courant speeds) = (refl, (λ e. cc), (λ e. cc))
 stops_with (why.Level stop) = (refl, (λ e. cc), (λ e. cc))
-stops_with (why.Place spot) = (refl, (λ e. cc), (λ e. cc))
-stops_with (why.PlaceBlock at) = (refl, (λ e. cc), (λ e. cc))
-stops_with (why.Blocks count) = (refl, (λ e. cc), (λ e. cc))
+stops_with other = (refl, (λ e. cc), (λ e. cc))
 
 ends_with : (names : VariableNames) (o : Option Refused) → (of_script (ending names o).status ≡ true) × ((ending names o).status ≢ status.Script)
 unfolding of_script
@@ -260,7 +255,7 @@ module _ (words : List (List ℕ)) (result : Status) (s : Source) (w : Written) 
     ]
   ]
     where
-      may : (a : Failed (admitted (script_of None o.bytes)) result w) (all : List ℕ) → o.bytes ≡ take LIMIT all → MayPrint [] all (Rose s.faults s.new_faults) a.text
+      may : (a : Failed (admitted (script_of None o.bytes)) result w) (all : List ℕ) → o.bytes ≡ take most_read all → MayPrint [] all (Rose s.faults s.new_faults) a.text
       may a all e = elim a.text_is [
         | inl t ↦ inl (t ∙ ap (λ b. (answer_of (admitted (script_of None b))).text) e)
         | inr t ↦ inr (refl, inr (t.0, subst (λ b. MayWant (admitted (script_of None b)) t.0) e t.1, t.2 ∙ ap (λ b. first_texts (admitted (script_of None b)) t.0 ++ memory_line) e))
@@ -285,7 +280,7 @@ module _ (words : List (List ℕ)) (result : Status) (s : Source) (w : Written) 
     ]
   ]
 
-  pub read : Outcome words result s w → words ≡ [] → ¬ Rose s.faults s.new_faults → IfSome s.before (λ bytes. s.after ≡ Some (drop LIMIT bytes))
+  pub read : Outcome words result s w → words ≡ [] → ¬ Rose s.faults s.new_faults → IfSome s.before (λ bytes. s.after ≡ Some (drop most_read bytes))
   read (inl o) none quiet = absurd (o.some none)
   read (inr (inl o)) none quiet = absurd (quiet o.rose)
   read (inr (inr (inl o))) none quiet = o.left

@@ -1,7 +1,7 @@
 -- The commands of a run, one after the other.
 use Rattle.std.specs.List.{list_all}
 use Rattle.std.proofs.lemmas.List.Elements.{All-cons, All-nil}
-use Rattle.std.proofs.Common.{◌≡◌, ℕ, ◌≤◌, is_none, Bool, true, false, ◌&&◌, if◌then◌else◌, All, zero, suc, ◌+◌, ◌<◌, ◌++◌, ◌⊎◌, List, [], ◌∷◌, Option, Some, None, Result, Ok, Err, IfSome, length, get_or, take, drop, inl, inr, refl, sym, ap, subst, ◌∙◌, arith, append_assoc, append-nil}
+use Rattle.std.proofs.Common.{◌≡◌, ℕ, ◌≤◌, is_none, Bool, true, false, ◌&&◌, if◌then◌else◌, All, zero, suc, ◌+◌, ◌<◌, ◌++◌, ◌⊎◌, List, [], ◌∷◌, Option, Some, None, Result, Ok, Err, IfSome, length, get_or, take, drop, inl, inr, refl, sym, ap, subst, ◌∙◌, arith, append_assoc, append-nil, length-append}
 use Rattle.std.proofs.Math.Seq.{take-suc}
 use Rattle.amr_num.specs.declared.Axis.{Axis}
 use Rattle.amr_num.specs.declared.Axis.TheVariants.{X, Y, Z}
@@ -9,9 +9,7 @@ use Rattle.amr_num.specs.declared.SideKind.{SideKind}
 use Rattle.amr_num.specs.declared.SideKind.TheVariants.{Periodic}
 use Rattle.script_lang.proofs.Scripts.{script_fits, script_in_limits}
 use Rattle.mesh_model.specs.declared.language.script.Command.{Command}
-use Rattle.mesh_model.specs.declared.language.script.Command.TheVariants as command
 use Rattle.mesh_model.specs.declared.run.stops.Refusal as stops
-use Rattle.mesh_model.specs.declared.run.stops.Refusal.TheVariants as why
 use Rattle.mesh_model.specs.Geometry.Coordinates.{is_periodic_kind, roots, side_index, side_kind}
 use Rattle.mesh_model.specs.Language.Grammar.{script_of, Fault}
 use Rattle.mesh_model.specs.Geometry.Limits.{IsShape}
@@ -19,12 +17,11 @@ use Rattle.mesh_model.specs.Run.StopTexts.{stop_line}
 use Rattle.mesh_model.specs.Run.Stops.{refusal}
 use Rattle.mesh_model.specs.Fields.Valid.{ValidMesh}
 use Rattle.mesh_model.proofs.FieldLemmas.Start.{start_mesh_valid}
-use Rattle.amr_program.specs.declared.program.TheConstants.{LIMIT}
 use Rattle.mesh_model.specs.declared.language.script.Declared.{Declared}
 use Rattle.mesh_model.specs.declared.language.script.Line.{Line}
-use Rattle.amr_engine.specs.declared.engine.Cause.{Cause}
-use Rattle.amr_engine.specs.declared.engine.Cause.TheVariants as causes
-use Rattle.amr_engine.specs.Stopping.{IsCause, Written}
+use Rattle.amr_engine.specs.declared.cause.StoppedBy.{StoppedBy}
+use Rattle.amr_engine.specs.declared.cause.StoppedBy.TheVariants as by
+use Rattle.amr_engine.specs.Stopping.{Leaves, MayStop, Written, Wrote, WrotePart}
 use Rattle.amr_report.proofs.Printed.{broke_within}
 use Rattle.amr_engine.specs.Contents.{IsRoots}
 use Rattle.amr_engine.specs.Built.{IsBuiltLine, is_built, is_built_mesh, is_built_command}
@@ -36,9 +33,9 @@ use Rattle.amr_program.specs.declared.status.Status.{Status}
 use Rattle.amr_program.specs.declared.status.Status.TheVariants as status
 use Rattle.amr_program.specs.declared.refusal.Refusal.{Refusal}
 use Rattle.amr_program.specs.declared.refusal.Refusal.TheVariants as refusals
-use Rattle.amr_program.specs.Answer.{AlongRun, MayWant, admitted, answer_of, done_in, ending, first_texts, read_in, script_in, status_of, stop_in}
+use Rattle.amr_program.specs.Answer.{AlongRun, MayWant, admitted, answer_of, done_in, ending, first_texts, most_read, read_in, script_in, status_of, stop_in}
 use Rattle.amr_program.specs.Lines.{memory_line, refusal_line}
-use Rattle.amr_program.specs.Outcome.{Came, Ended, RunStops, Stopped, Wrote, WrotePart}
+use Rattle.amr_program.specs.Outcome.{Came, Ended, RunStops, Stopped}
 use Rattle.mesh_model.specs.Run.Runs.{AtEachCommand, declared_in, done, first_mesh, mesh_after, mesh_after_all, stop, text_of, texts}
 
 -- ---- commands after others
@@ -131,26 +128,26 @@ stopped_here m now lines i number d a b c f g h l number_is so_far before calm r
     )
 
 -- a command was stopped
-pub run_stops : (cause : Cause) (m now : Mesh) (lines : List Line) (i number : ℕ) (d : Line) (a b c : Option (List ℕ)) (f g h : ℕ) → i < length lines → number ≡ (get_or lines i d).number → Progress m lines i now → Takes a (texts m (take i lines)) b → g ≡ f →
-    IsCause cause now (get_or lines i d).command (record { before = b; after = c; faults = g; new_faults = h }) → (cause ≡ causes.OutOfMemory → (get_or lines i d).command ≡ command.Regrid) →
-    RunStops cause number m lines (record { before = a; after = c; faults = f; new_faults = h })
-run_stops (causes.Range range) m now lines i number d a b c f g h l number_is so_far before calm told wants = stopped_here m now lines i number d a b c f g h l number_is so_far before calm (why.Range range) told.0 told.1.taken told.1.calm
-run_stops (causes.Courant speeds) m now lines i number d a b c f g h l number_is so_far before calm told wants = stopped_here m now lines i number d a b c f g h l number_is so_far before calm (why.Courant speeds) told.0 told.1.taken told.1.calm
-run_stops (causes.Level stopped) m now lines i number d a b c f g h l number_is so_far before calm told wants = stopped_here m now lines i number d a b c f g h l number_is so_far before calm (why.Level stopped) told.0 told.1.taken told.1.calm
-run_stops (causes.PlaceBlock at) m now lines i number d a b c f g h l number_is so_far before calm told wants = stopped_here m now lines i number d a b c f g h l number_is so_far before calm (why.PlaceBlock at) told.0 told.1.taken told.1.calm
-run_stops (causes.Blocks count) m now lines i number d a b c f g h l number_is so_far before calm told wants = stopped_here m now lines i number d a b c f g h l number_is so_far before calm (why.Blocks count) told.0 told.1.taken told.1.calm
-run_stops causes.WriteFault m now lines i number d a b c f g h l number_is so_far before calm told wants =
+pub run_stops : (stopper : StoppedBy) (m now : Mesh) (lines : List Line) (i number : ℕ) (d : Line) (a b c : Option (List ℕ)) (f g h : ℕ) → i < length lines → number ≡ (get_or lines i d).number → Progress m lines i now → Takes a (texts m (take i lines)) b → g ≡ f →
+    MayStop stopper now (get_or lines i d).command → Leaves stopper (text_of now (get_or lines i d).command) (record { before = b; after = c; faults = g; new_faults = h }) → RunStops stopper number m lines (record { before = a; after = c; faults = f; new_faults = h })
+run_stops (by.Mesh reason) m now lines i number d a b c f g h l number_is so_far before calm may leaves = stopped_here m now lines i number d a b c f g h l number_is so_far before calm reason may leaves.taken leaves.calm
+run_stops by.Sink m now lines i number d a b c f g h l number_is so_far before calm may leaves =
     let line = get_or lines i d in
     let rest = drop (i + 1) lines in
     let after = mesh_after now line.command in
-    let all : done m lines ≡ take i lines ++ line ∷ done after rest = so_far.done_so_far ∙ ap (λ ls. take i lines ++ done now ls) (left_from lines i d l) ∙ ap (λ ls. take i lines ++ ls) (done_by now line rest told.0).0 in
+    let all : done m lines ≡ take i lines ++ line ∷ done after rest = so_far.done_so_far ∙ ap (λ ls. take i lines ++ done now ls) (left_from lines i d l) ∙ ap (λ ls. take i lines ++ ls) (done_by now line rest may.1).0 in
     let whole : texts m (done m lines) ≡ (texts m (take i lines) ++ text_of now line.command) ++ texts after (done after rest) =
     ap (texts m) all ∙ texts_append m (take i lines) (line ∷ done after rest) ∙ ap (λ x. texts m (take i lines) ++ texts x (line ∷ done after rest)) (sym so_far.mesh) ∙ sym (append_assoc (texts m (take i lines)) (text_of now line.command) (texts after (done after rest))) in
-    let part = broke_within a b c (texts m (take i lines)) (text_of now line.command) (texts after (done after rest)) (texts m (done m lines)) f g h (before, calm) (told.1, told.2) whole in
+    let part = broke_within a b c (texts m (take i lines)) (text_of now line.command) (texts after (done after rest)) (texts m (done m lines)) f g h (before, calm) (leaves.takes, leaves.rose) whole in
     record { takes = part.0; rose = part.1 }
-run_stops causes.OutOfMemory m now lines i number d a b c f g h l number_is so_far before calm told wants =
-    let firsts : take i (done m lines) ≡ take i lines = ap (take i) so_far.done_so_far ∙ take_first (take i lines) (done now (drop i lines)) i (taken_length lines i (omega (arith, l))) in
-    (i, (get_or lines i d, drop (i + 1) lines, left_from lines i d l, wants refl), record { takes = subst (λ t. Takes a t c) (ap (texts m) (sym firsts)) (subst (λ x. Takes a (texts m (take i lines)) x) (sym told.taken) before); calm = told.calm ∙ calm })
+run_stops by.Memory m now lines i number d a b c f g h l number_is so_far before calm may leaves =
+    let taken : length (take i lines) ≡ i = taken_length lines i (omega (arith, l)) in
+    let firsts : take i (done m lines) ≡ take i lines = ap (take i) so_far.done_so_far ∙ take_first (take i lines) (done now (drop i lines)) i taken in
+    let many = ap length so_far.done_so_far ∙ length-append (take i lines) (done now (drop i lines)) in (
+      i,
+      record { line = get_or lines i d; rest = drop (i + 1) lines; reached = omega (arith, taken, many); next = left_from lines i d l; wants = may },
+      record { takes = subst (λ t. Takes a t c) (ap (texts m) (sym firsts)) (subst (λ x. Takes a (texts m (take i lines)) x) (sym leaves.taken) before); calm = leaves.calm ∙ calm },
+    )
   where
     taken_length : (lines : List Line) (i : ℕ) → i ≤ length lines → length (take i lines) ≡ i
     taken_length lines zero k = refl
@@ -199,8 +196,8 @@ pub refused_said : (refusal : Refusal) (line : List ℕ) (result : Status) (w : 
 refused_said refusal line result w is e = refused_came refusal result w (subst (λ t. Ended status.Script t result w) is e)
 
 -- how the run of a script's lines from its start mesh stopped
-pub at_start : (s : PlainScript) (cause : Cause) (line : ℕ) (m : Mesh) (lines : List Line) (w : Written) → m ≡ first_mesh s → lines ≡ s.lines → RunStops cause line m lines w → RunStops cause line (first_mesh s) s.lines w
-at_start s cause line m lines w m_is lines_are stops = subst (λ ls. RunStops cause line (first_mesh s) ls w) lines_are (subst (λ x. RunStops cause line x lines w) m_is stops)
+pub at_start : (s : PlainScript) (stopper : StoppedBy) (line : ℕ) (m : Mesh) (lines : List Line) (w : Written) → m ≡ first_mesh s → lines ≡ s.lines → RunStops stopper line m lines w → RunStops stopper line (first_mesh s) s.lines w
+at_start s stopper line m lines w m_is lines_are stops = subst (λ ls. RunStops stopper line (first_mesh s) ls w) lines_are (subst (λ x. RunStops stopper line x lines w) m_is stops)
 
 -- a run in which no command was refused
 pub came_done : (s : PlainScript) (w : Written) → stop_in s ≡ None → Wrote (texts (first_mesh s) (done_in s)) w → Came (Ok s) status.Done w
@@ -241,16 +238,12 @@ came_refused s line reason result a b c f g h some wrote (inr e) =
     inr (inr (record { status_is = e.0; text = (answer_of (Ok s)).text; text_is = inl refl; wrote = record { takes = broke.0; rose = broke.1 } }))
 
 -- how a run that stopped ends
-pub came_stopped : (s : PlainScript) (cause : Cause) (line : ℕ) (result : Status) (a b c : Option (List ℕ)) (f g h : ℕ) →
-    RunStops cause line (first_mesh s) s.lines (record { before = a; after = b; faults = f; new_faults = g }) → Stopped cause line s.declared.names result (record { before = b; after = c; faults = g; new_faults = h }) →
+pub came_stopped : (s : PlainScript) (stopper : StoppedBy) (line : ℕ) (result : Status) (a b c : Option (List ℕ)) (f g h : ℕ) →
+    RunStops stopper line (first_mesh s) s.lines (record { before = a; after = b; faults = f; new_faults = g }) → Stopped stopper line s.declared.names result (record { before = b; after = c; faults = g; new_faults = h }) →
     Came (Ok s) result (record { before = a; after = c; faults = f; new_faults = h })
-came_stopped s (causes.Range range) line result a b c f g h stops ends = came_refused s line (why.Range range) result a b c f g h stops.0 stops.1 ends
-came_stopped s (causes.Courant speeds) line result a b c f g h stops ends = came_refused s line (why.Courant speeds) result a b c f g h stops.0 stops.1 ends
-came_stopped s (causes.Level stopped) line result a b c f g h stops ends = came_refused s line (why.Level stopped) result a b c f g h stops.0 stops.1 ends
-came_stopped s (causes.PlaceBlock at) line result a b c f g h stops ends = came_refused s line (why.PlaceBlock at) result a b c f g h stops.0 stops.1 ends
-came_stopped s (causes.Blocks count) line result a b c f g h stops ends = came_refused s line (why.Blocks count) result a b c f g h stops.0 stops.1 ends
-came_stopped s causes.OutOfMemory line result a b c f g h stops ends = starved_after (Ok s) stops.0 (inr stops.1) result a b c f g h stops.2.takes stops.2.calm ends
-came_stopped s causes.WriteFault line result a b c f g h stops ends =
+came_stopped s (by.Mesh why) line result a b c f g h stops ends = came_refused s line why result a b c f g h stops.0 stops.1 ends
+came_stopped s by.Memory line result a b c f g h stops ends = starved_after (Ok s) stops.0 (inr stops.1) result a b c f g h stops.2.takes stops.2.calm ends
+came_stopped s by.Sink line result a b c f g h stops ends =
     subst (λ r. Came (Ok s) r (record { before = a; after = c; faults = f; new_faults = h })) (sym ends.0)
     (came_failed s (record { before = a; after = c; faults = f; new_faults = h }) (record { takes = subst (λ x. TakesPrefix a (texts (first_mesh s) (done_in s)) x) (sym ends.1.taken) stops.takes; rose = subst (λ n. Rose f n) (sym ends.1.calm) stops.rose }))
 
@@ -347,4 +340,4 @@ module _ (R : Mesh → Command → Mesh → Type 0) (law : (m : Mesh) (lines : L
 
   pub along_run : (left : Option (List ℕ)) → IfSome left (λ bytes. AlongRun R (script_in bytes))
   along_run None = tt
-  along_run (Some bytes) = kept (take LIMIT bytes) (read_in bytes) refl
+  along_run (Some bytes) = kept (take most_read bytes) (read_in bytes) refl

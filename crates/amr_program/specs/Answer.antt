@@ -1,21 +1,19 @@
 -- The plain answer: what a run answers and prints, as a function of its words and of the bytes of its source.
-use Rattle.std.specs.Prelude.{◌≡◌, ℕ, true, false, if◌then◌else◌, List, [], ◌∷◌, ◌++◌, Option, Some, None, Result, Ok, Err, ◌⊎◌, drop, take}
+use Rattle.std.specs.Prelude.{◌≡◌, ℕ, ◌+◌, ◌≤◌, true, false, if◌then◌else◌, List, [], ◌∷◌, ◌++◌, length, Option, Some, None, Result, Ok, Err, ◌⊎◌, drop, take}
 use Rattle.amr_engine.specs.Built.{is_built}
 use Rattle.mesh_model.specs.Language.Commands.{PlainScript}
-use Rattle.mesh_model.specs.Language.Grammar.{Fault, script_of}
+use Rattle.mesh_model.specs.Language.Grammar.{Fault, most_bytes, script_of}
 use Rattle.mesh_model.specs.Fields.Plain.{Mesh}
-use Rattle.mesh_model.specs.Run.Runs.{AtEachCommand, Refused, done, first_mesh, stop, texts}
+use Rattle.mesh_model.specs.Run.Runs.{AtEachCommand, Refused, TheMemory, done, first_mesh, needs, stop, texts}
 use Rattle.mesh_model.specs.Run.StopTexts.{stop_line}
 use Rattle.mesh_model.specs.Fields.VariableNames.{VariableNames}
 use Rattle.mesh_model.specs.declared.language.script.Command.{Command}
-use Rattle.mesh_model.specs.declared.language.script.Command.TheVariants as command
 use Rattle.mesh_model.specs.declared.language.script.Line.{Line}
 use Rattle.mesh_model.specs.declared.run.stops.Refusal as stops
 use Rattle.mesh_model.specs.declared.run.stops.Refusal.TheVariants as why
 use Rattle.outside_io.specs.Moved.{Takes, TakesPrefix}
 use Rattle.amr_program.specs.declared.status.Status.{Status}
 use Rattle.amr_program.specs.declared.status.Status.TheVariants.{Done, Words, Script, Stopped, Level}
-use Rattle.amr_program.specs.declared.program.TheConstants.{LIMIT}
 use Rattle.amr_program.specs.declared.refusal.Refusal.{Refusal}
 use Rattle.amr_program.specs.declared.refusal.Refusal.TheVariants as refusals
 use Rattle.amr_program.specs.Lines.{memory_line, read_line, refusal_line, words_line}
@@ -25,9 +23,13 @@ pub record Answer : Type 0 where
   pub status : Status
   pub text : List ℕ
 
--- what the bytes of the source say: its first bytes, one more than a script may have
+-- how many bytes are read of a source at most: one more than a script may have
+abbrev pub most_read : ℕ
+most_read = most_bytes + 1
+
+-- what the bytes of the source say
 abbrev pub read_in : List ℕ → Result PlainScript Fault
-read_in bytes = script_of None (take LIMIT bytes)
+read_in bytes = script_of None (take most_read bytes)
 
 -- a script that was read is run where it is built, by one rank and one worker
 abbrev pub admitted : Result PlainScript Fault → Result PlainScript Refusal
@@ -97,13 +99,17 @@ abbrev pub first_texts : Result PlainScript Refusal → ℕ → List ℕ
 first_texts (Ok s) k = texts (first_mesh s) (take k (done_in s))
 first_texts (Err refusal) k = []
 
--- the command after the first k is a regrid
-abbrev pub IsRegridAfter : ℕ → List Line → Type 0
-IsRegridAfter k lines = (line : Line) × (rest : List Line) × (drop k lines ≡ line ∷ rest) × (line.command ≡ command.Regrid)
+-- memory is wanting at the command after the first k: these are done, and it needs memory
+pub record WantsAfter (k : ℕ) (m : Mesh) (lines : List Line) : Type 0 where
+  pub line : Line
+  pub rest : List Line
+  pub reached : k ≤ length (done m lines)
+  pub next : drop k lines ≡ line ∷ rest
+  pub wants : needs line.command ≡ TheMemory
 
--- memory may be wanting after the first k commands: before all of them, or at a regrid
+-- memory may be wanting after the first k commands: before all of them, or at one that needs it
 abbrev pub MayWant : Result PlainScript Refusal → ℕ → Type 0
-MayWant (Ok s) k = (k ≡ 0) ⊎ IsRegridAfter k s.lines
+MayWant (Ok s) k = (k ≡ 0) ⊎ WantsAfter k (first_mesh s) s.lines
 MayWant (Err refusal) k = k ≡ 0
 
 -- a text that ends where the source failed, or where memory was wanting

@@ -1,8 +1,8 @@
 -- The ways in which the parts of a run end.
 use Rattle.std.specs.Prelude.{◌≡◌, ◌≢◌, ℕ, List, [], ◌++◌, Option, Some, None, Result, ◌⊎◌, IfSome, take, drop}
-use Rattle.amr_engine.specs.declared.engine.Cause.{Cause}
-use Rattle.amr_engine.specs.declared.engine.Cause.TheVariants as causes
-use Rattle.amr_engine.specs.Stopping.{IsUntouched, Written, refusal_of}
+use Rattle.amr_engine.specs.declared.cause.StoppedBy.{StoppedBy}
+use Rattle.amr_engine.specs.declared.cause.StoppedBy.TheVariants as by
+use Rattle.amr_engine.specs.Stopping.{IsUntouched, Written, Wrote, WrotePart}
 use Rattle.mesh_model.specs.declared.language.script.Line.{Line}
 use Rattle.mesh_model.specs.Language.Commands.{PlainScript}
 use Rattle.mesh_model.specs.Language.Grammar.{script_of}
@@ -10,56 +10,28 @@ use Rattle.mesh_model.specs.Fields.Plain.{Mesh}
 use Rattle.mesh_model.specs.Run.Runs.{done, stop, texts}
 use Rattle.mesh_model.specs.Run.StopTexts.{stop_line}
 use Rattle.mesh_model.specs.Fields.VariableNames.{VariableNames}
-use Rattle.mesh_model.specs.declared.run.stops.Refusal as stops
-use Rattle.outside_io.specs.Moved.{Rose, Takes, TakesPrefix}
+use Rattle.outside_io.specs.Moved.{Rose}
 use Rattle.amr_program.specs.declared.status.Status.{Status}
 use Rattle.amr_program.specs.declared.status.Status.TheVariants as status
-use Rattle.amr_program.specs.declared.program.TheConstants.{LIMIT}
 use Rattle.amr_program.specs.declared.refusal.Refusal.{Refusal}
-use Rattle.amr_program.specs.Answer.{IsRegridAfter, MayWant, admitted, answer_of, first_texts, status_of}
+use Rattle.amr_program.specs.Answer.{MayWant, WantsAfter, admitted, answer_of, first_texts, most_read, status_of}
 use Rattle.amr_program.specs.Lines.{memory_line, read_line, words_line}
-
--- the text was written, without a fault
-pub record Wrote (text : List ℕ) (w : Written) : Type 0 where
-  pub takes : Takes w.before text w.after
-  pub calm : w.new_faults ≡ w.faults
-
--- the first bytes of the text were written, and then the sink failed
-pub record WrotePart (text : List ℕ) (w : Written) : Type 0 where
-  pub takes : TakesPrefix w.before text w.after
-  pub rose : Rose w.faults w.new_faults
 
 -- the text was written and this is the status, or the sink failed
 abbrev pub Ended : Status → List ℕ → Status → Written → Type 0
 Ended ends text result w = ((result ≡ ends) × Wrote text w) ⊎ ((result ≡ status.WriteFault) × WrotePart text w)
 
--- how a run of commands stopped, at a line: the command there is refused; the sink failed; or memory was refused at a command
-abbrev pub RunRefused : Option stops.Refusal → Cause → ℕ → Mesh → List Line → Written → Type 0
-RunRefused (Some reason) cause line m lines w = (stop m lines ≡ Some (record { line = line; why = reason })) × Wrote (texts m (done m lines)) w
-RunRefused None causes.OutOfMemory line m lines w = (k : ℕ) × IsRegridAfter k lines × Wrote (texts m (take k (done m lines))) w
-RunRefused None causes.WriteFault line m lines w = WrotePart (texts m (done m lines)) w
-RunRefused None (causes.Range range) line m lines w = ⊥
-RunRefused None (causes.Courant speeds) line m lines w = ⊥
-RunRefused None (causes.Level stop) line m lines w = ⊥
-RunRefused None (causes.PlaceBlock at) line m lines w = ⊥
-RunRefused None (causes.Blocks count) line m lines w = ⊥
+-- how a run of commands stopped, at a line: the command there is refused; the sink failed; or memory was wanting at a command
+abbrev pub RunStops : StoppedBy → ℕ → Mesh → List Line → Written → Type 0
+RunStops (by.Mesh why) line m lines w = (stop m lines ≡ Some (record { line = line; why = why })) × Wrote (texts m (done m lines)) w
+RunStops by.Sink line m lines w = WrotePart (texts m (done m lines)) w
+RunStops by.Memory line m lines w = (k : ℕ) × WantsAfter k m lines × Wrote (texts m (take k (done m lines))) w
 
-abbrev pub RunStops : Cause → ℕ → Mesh → List Line → Written → Type 0
-RunStops cause line m lines w = RunRefused (refusal_of cause) cause line m lines w
-
--- what is written of a stop: the line of the refusal, the line that says that memory is wanting, or nothing after a fault of the sink
-abbrev pub StoppedBy : Option stops.Refusal → Cause → ℕ → VariableNames → Status → Written → Type 0
-StoppedBy (Some reason) cause line names result w = Ended (status_of reason) (stop_line names line reason) result w
-StoppedBy None causes.OutOfMemory line names result w = Ended status.OutOfMemory memory_line result w
-StoppedBy None causes.WriteFault line names result w = (result ≡ status.WriteFault) × IsUntouched w
-StoppedBy None (causes.Range range) line names result w = Unit {0}
-StoppedBy None (causes.Courant speeds) line names result w = Unit {0}
-StoppedBy None (causes.Level stop) line names result w = Unit {0}
-StoppedBy None (causes.PlaceBlock at) line names result w = Unit {0}
-StoppedBy None (causes.Blocks count) line names result w = Unit {0}
-
-abbrev pub Stopped : Cause → ℕ → VariableNames → Status → Written → Type 0
-Stopped cause line names result w = StoppedBy (refusal_of cause) cause line names result w
+-- what is written of a stop: the line of the refusal, nothing after a fault of the sink, or the line that says that memory is wanting
+abbrev pub Stopped : StoppedBy → ℕ → VariableNames → Status → Written → Type 0
+Stopped (by.Mesh why) line names result w = Ended (status_of why) (stop_line names line why) result w
+Stopped by.Sink line names result w = (result ≡ status.WriteFault) × IsUntouched w
+Stopped by.Memory line names result w = Ended status.OutOfMemory memory_line result w
 
 -- the answer came, with all of its text
 pub record Answered (read : Result PlainScript Refusal) (result : Status) (w : Written) : Type 0 where
@@ -107,7 +79,7 @@ pub record ByRead (words : List (List ℕ)) (result : Status) (s : Source) (w : 
 pub record ByMemory (words : List (List ℕ)) (result : Status) (s : Source) (w : Written) : Type 0 where
   pub none : words ≡ []
   pub calm : s.new_faults ≡ s.faults
-  pub left : IfSome s.before (λ all. s.after ≡ Some (drop LIMIT all))
+  pub left : IfSome s.before (λ all. s.after ≡ Some (drop most_read all))
   pub ended : Ended status.OutOfMemory memory_line result w
 
 -- the bytes were read
@@ -115,7 +87,7 @@ pub record ByScript (words : List (List ℕ)) (result : Status) (s : Source) (w 
   pub none : words ≡ []
   pub calm : s.new_faults ≡ s.faults
   pub bytes : List ℕ
-  pub left : IfSome s.before (λ all. (bytes ≡ take LIMIT all) × (s.after ≡ Some (drop LIMIT all)))
+  pub left : IfSome s.before (λ all. (bytes ≡ take most_read all) × (s.after ≡ Some (drop most_read all)))
   pub came : Came (admitted (script_of None bytes)) result w
 
 abbrev pub Outcome : List (List ℕ) → Status → Source → Written → Type 0

@@ -1,6 +1,6 @@
 //! The program, from words and the bytes of a script to a status and printed bytes.
 
-ghost use Rattle.amr_program.specs.Answer.{AlongRun, IsAccepted, IsAnswer, IsRefused, IsStoppedWith, TookBeforeMemory, TookPart, plain_answer, read_in, script_in};
+ghost use Rattle.amr_program.specs.Answer.{AlongRun, IsAccepted, IsAnswer, IsRefused, IsStoppedWith, TookBeforeMemory, TookPart, most_read, plain_answer, read_in, script_in};
 ghost use Rattle.amr_program.specs.Lines.{read_line};
 ghost use Rattle.amr_program.specs.Outcome.{Outcome};
 ghost use Rattle.mesh_model.specs.Run.Runs.{KeepsOuts, KeepsTotals, StaysPositive};
@@ -42,17 +42,18 @@ pub fn amr<S: Source, K: Sink, D: Disk>(
     ensures complete { words.now ≡ [] → ¬ Rose (S.faults source.old) (S.faults source.new) → ¬ Rose (K.faults sink.old) (K.faults sink.new) →
         IfSome (S.left source.old) (λ bytes. IsAccepted (read_in bytes) → (result ≡ Status.Done) ⊎ (result ≡ Status.OutOfMemory)) }
 
-    // What was printed where the sink failed, or memory was wanting, which it may be before the first command and at a regrid.
+    // What was printed where the sink failed, or memory was wanting: before the first command, or at one that is reached and needs memory.
     ensures part { result ≡ Status.WriteFault → IfSome (S.left source.old) (λ bytes. TookPart (map (λ w. string_bytes w) words.now) bytes (Rose (S.faults source.old) (S.faults source.new)) (K.taken sink.old) (K.taken sink.new)) }
     ensures memory { result ≡ Status.OutOfMemory → IfSome (S.left source.old) (λ bytes. TookBeforeMemory bytes (K.taken sink.old) (K.taken sink.new)) }
 
     // The source at return, and the disk.
     ensures unread { words.now ≢ [] → source.new ≡ source.old }
-    ensures read { words.now ≡ [] → ¬ Rose (S.faults source.old) (S.faults source.new) → IfSome (S.left source.old) (λ bytes. S.left source.new ≡ Some (drop LIMIT bytes)) }
+    ensures read { words.now ≡ [] → ¬ Rose (S.faults source.old) (S.faults source.new) → IfSome (S.left source.old) (λ bytes. S.left source.new ≡ Some (drop most_read bytes)) }
     ensures disk { disk.new ≡ disk.old }
 
-    // The total of a variable and what has flowed out of it change together by fills alone, what has flowed out by
-    // advects alone, and an advect leaves no content below 0 where none was.
+    // Laws of the script's plain run, which `answer` ties to what is printed; they name neither the status nor the sink. The
+    // total of a variable and what has flowed out of it change together by fills alone, what has flowed out by advects alone,
+    // and an advect leaves no content below 0 where none was.
     ensures totals { IfSome (S.left source.old) (λ bytes. AlongRun KeepsTotals (script_in bytes)) }
     ensures outs { IfSome (S.left source.old) (λ bytes. AlongRun KeepsOuts (script_in bytes)) }
     ensures positive { IfSome (S.left source.old) (λ bytes. AlongRun StaysPositive (script_in bytes)) }

@@ -3,7 +3,8 @@
 ghost use Rattle.amr_engine.specs.Plain.{declared_of, plain};
 ghost use Rattle.amr_program.specs.Answer.{admitted, status_of};
 ghost use Rattle.amr_program.specs.Lines.{memory_line, read_line, refusal_line, words_line};
-ghost use Rattle.amr_program.specs.Outcome.{Came, Ended, RunStops, Stopped, Wrote};
+ghost use Rattle.amr_program.specs.Outcome.{Came, Ended, RunStops, Stopped};
+ghost use Rattle.amr_engine.specs.Stopping.{Wrote, stopped_by};
 ghost use Rattle.amr_engine.specs.Built.{IsBuiltLine, is_built};
 ghost use Rattle.mesh_model.specs.Language.Commands.{InLimits, IsLineOf, plain_script};
 ghost use Rattle.mesh_model.specs.Language.Grammar.{script_of};
@@ -15,7 +16,8 @@ use crate::refusal::Refusal;
 use crate::status::Status;
 use crate::stop_line::stop_text;
 use amr_engine::built::built;
-use amr_engine::engine::{Cause, Engine, Stop};
+use amr_engine::cause::{Stop, StoppedBy};
+use amr_engine::engine::Engine;
 use amr_report::Line;
 use mesh_model::language::names::Names;
 use mesh_model::language::script::Reason;
@@ -67,7 +69,7 @@ fn run<K: Sink, D: Disk>(
     requires built { All (IsBuiltLine (declared_of engine.old)) lines.now }
     ensures text { OnOk result (Wrote (texts (plain engine.old) (done (plain engine.old) lines.now)) (record { before = K.taken sink.old; after = K.taken sink.new; faults = K.faults sink.old; new_faults = K.faults sink.new })) }
     ensures whole { OnOk result (stop (plain engine.old) lines.now ≡ None) }
-    ensures stops { IfErr result (λ stopped. RunStops stopped.cause stopped.line (plain engine.old) lines.now (record { before = K.taken sink.old; after = K.taken sink.new; faults = K.faults sink.old; new_faults = K.faults sink.new })) }
+    ensures stops { IfErr result (λ stopped. RunStops (stopped_by stopped.cause) stopped.line (plain engine.old) lines.now (record { before = K.taken sink.old; after = K.taken sink.new; faults = K.faults sink.old; new_faults = K.faults sink.new })) }
     ensures names { declared_of engine.new ≡ declared_of engine.old }
     ensures disk { disk.new ≡ disk.old }
 {
@@ -87,14 +89,12 @@ fn end_refused<K: Sink>(sink: &mut K, names: &Names, line: u32, why: stops::Refu
 
 /// Ends a run that is stopped.
 fn end_stopped<K: Sink>(engine: &Engine, stop: Stop, sink: &mut K) -> Status
-    ensures { Stopped stop.cause stop.line (declared_of engine.now).names result (record { before = K.taken sink.old; after = K.taken sink.new; faults = K.faults sink.old; new_faults = K.faults sink.new }) }
+    ensures { Stopped (stopped_by stop.cause) stop.line (declared_of engine.now).names result (record { before = K.taken sink.old; after = K.taken sink.new; faults = K.faults sink.old; new_faults = K.faults sink.new }) }
 {
-    match stop.cause.refusal() {
-        Some(why) => end_refused(sink, engine.names(), stop.line, why),
-        None => match stop.cause {
-            Cause::OutOfMemory => end(sink, MEMORY_LINE, Status::OutOfMemory),
-            _ => Status::WriteFault,
-        },
+    match stop.cause.stopped_by() {
+        StoppedBy::Mesh(why) => end_refused(sink, engine.names(), stop.line, why),
+        StoppedBy::Sink => Status::WriteFault,
+        StoppedBy::Memory => end(sink, MEMORY_LINE, Status::OutOfMemory),
     }
 }
 

@@ -1,7 +1,7 @@
 //! The lines that declare: their words after the first, from left to right.
 
 ghost use Rattle.std.specs.Prelude.{◌≡◌, ◌∷◌, [], ◌++◌, ◌<◌, ◌≤◌, length, Some, Ok, Err, MatchResult, IfOk, OnOk};
-ghost use Rattle.mesh_model.specs.declared.language.names.TheConstants.{NAME_LENGTH};
+ghost use Rattle.mesh_model.specs.Fields.VariableNames.{longest_name, most_cell_variables};
 ghost use Rattle.mesh_model.specs.Geometry.Coordinates.{is_periodic_kind};
 ghost use Rattle.mesh_model.specs.Language.Declarations as plain;
 ghost use Rattle.script_lang.specs.Answers.{texts, IsNarrow};
@@ -108,8 +108,8 @@ pub fn levels(shape: Shape, words: &[&[u8]]) -> Result<Shape, Reason>
 pub fn cellvar<'a>(names: &Names, words: &[&'a [u8]]) -> Result<&'a str, Reason>
     requires { length words.now ≡ 2 }
     ensures name { MatchResult result (λ s. plain.cellvar names.now (texts words.now) ≡ Ok (record names.now { cells = names.now.cells ++ s.now ∷ [] })) (λ e. plain.cellvar names.now (texts words.now) ≡ Err e) }
-    ensures room { OnOk result (length names.now.cells < 4) }
-    ensures short { IfOk result (λ s. length s.now ≤ NAME_LENGTH) }
+    ensures room { OnOk result (length names.now.cells < most_cell_variables) }
+    ensures short { IfOk result (λ s. length s.now ≤ longest_name) }
 {
     let full = names.cells() >= CELL_VARIABLES;
     new_name(names, full, word(words, 1))
@@ -120,7 +120,7 @@ pub fn cellvar<'a>(names: &Names, words: &[&'a [u8]]) -> Result<&'a str, Reason>
 pub fn facevar<'a>(names: &Names, words: &[&'a [u8]]) -> Result<&'a str, Reason>
     requires { length words.now ≡ 2 }
     ensures name { MatchResult result (λ s. plain.facevar names.now (texts words.now) ≡ Ok (record names.now { face = Some s.now })) (λ e. plain.facevar names.now (texts words.now) ≡ Err e) }
-    ensures short { IfOk result (λ s. length s.now ≤ NAME_LENGTH) }
+    ensures short { IfOk result (λ s. length s.now ≤ longest_name) }
 {
     new_name(names, names.face().is_some(), word(words, 1))
 }
@@ -130,7 +130,7 @@ pub fn facevar<'a>(names: &Names, words: &[&'a [u8]]) -> Result<&'a str, Reason>
 pub fn edgevar<'a>(names: &Names, words: &[&'a [u8]]) -> Result<&'a str, Reason>
     requires { length words.now ≡ 2 }
     ensures name { MatchResult result (λ s. plain.edgevar names.now (texts words.now) ≡ Ok (record names.now { edge = Some s.now })) (λ e. plain.edgevar names.now (texts words.now) ≡ Err e) }
-    ensures short { IfOk result (λ s. length s.now ≤ NAME_LENGTH) }
+    ensures short { IfOk result (λ s. length s.now ≤ longest_name) }
 {
     new_name(names, names.edge().is_some(), word(words, 1))
 }

@@ -2,7 +2,7 @@
 
 ghost use Rattle.std.specs.Prelude.{◌≡◌, ◌≤◌, true, false, Ok, Err, length, IfOk, MatchResult, OnOk};
 ghost use Rattle.std.specs.Option.{option_copied};
-ghost use Rattle.mesh_model.specs.declared.language.names.TheConstants.{NAME_LENGTH};
+ghost use Rattle.mesh_model.specs.Fields.VariableNames.{longest_name};
 ghost use Rattle.mesh_model.specs.Language.Forms as form;
 ghost use Rattle.mesh_model.specs.Language.Words.{is_name};
 
@@ -76,7 +76,7 @@ fn is_taken(names: &Names, word: &[u8]) -> bool
 fn text_of(name: &[u8]) -> &str
     requires { is_name name.now ≡ true }
     ensures text { result.now ≡ name.now }
-    ensures short { length result.now ≤ NAME_LENGTH }
+    ensures short { length result.now ≤ longest_name }
 {
     match str::from_utf8(name) {
         Ok(text) => text,
@@ -89,7 +89,7 @@ fn text_of(name: &[u8]) -> &str
 pub fn new_name<'a>(names: &Names, full: bool, word: &'a [u8]) -> Result<&'a str, Reason>
     ensures name { MatchResult result (λ s. form.new_name names.now full word.now ≡ Ok s.now) (λ e. form.new_name names.now full word.now ≡ Err e) }
     ensures room { OnOk result (full ≡ false) }
-    ensures short { IfOk result (λ s. length s.now ≤ NAME_LENGTH) }
+    ensures short { IfOk result (λ s. length s.now ≤ longest_name) }
 {
     if !is_name(word) {
         return Err(Reason::BadName);

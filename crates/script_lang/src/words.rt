@@ -66,10 +66,10 @@ fn is_positive(word: &[u8]) -> bool
 /// More than any number of a script may be.
 const BEYOND: u64 = 1 << 41;
 
-/// The value of the digits, or `BEYOND` where it is greater.
+/// The value of the digits, or `BEYOND`, which is 2^41, where it is greater.
 fn value_of(digits: &[u8]) -> u64
     requires { plain.is_positive digits.now ≡ true }
-    ensures { result ≡ min (plain.digits_value digits.now) BEYOND }
+    ensures { result ≡ min (plain.digits_value digits.now) (2 ^ 41) }
 {
     let mut value: u64 = 0;
     for d in digits {

@@ -10,3 +10,10 @@ pub record VariableNames : Type 0 where
 -- no variable is declared
 abbrev pub no_names : VariableNames
 no_names = record { cells = []; face = None; edge = None }
+
+-- the most cell variables that a mesh has, and the most bytes that a name has
+abbrev pub most_cell_variables : ℕ
+most_cell_variables = 4
+
+abbrev pub longest_name : ℕ
+longest_name = 16

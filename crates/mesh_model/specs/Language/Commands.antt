@@ -13,7 +13,7 @@ use Rattle.mesh_model.specs.declared.language.script.Line.{Line}
 use Rattle.mesh_model.specs.declared.language.script.Script.{Script}
 use Rattle.mesh_model.specs.Geometry.Limits.{IsShape}
 use Rattle.mesh_model.specs.Geometry.Coordinates.{extent, is_periodic_kind, axis_index}
-use Rattle.mesh_model.specs.Fields.VariableNames.{VariableNames}
+use Rattle.mesh_model.specs.Fields.VariableNames.{VariableNames, most_cell_variables}
 use Rattle.mesh_model.specs.Language.Words.{is_name}
 
 -- a script as plain data
@@ -87,7 +87,7 @@ IsLineOf d line = IsCommandOf d line.command
 
 -- at most four cell variables; each name is one
 pub record AreNames (names : VariableNames) : Type 0 where
-  pub few : length names.cells ≤ 4
+  pub few : length names.cells ≤ most_cell_variables
   pub cells : All (λ w. is_name w ≡ true) names.cells
   pub face : IfSome names.face (λ w. is_name w ≡ true)
   pub edge : IfSome names.edge (λ w. is_name w ≡ true)

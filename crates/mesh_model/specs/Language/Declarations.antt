@@ -5,7 +5,7 @@ use Rattle.mesh_model.specs.declared.geometry.Shape.{Shape}
 use Rattle.mesh_model.specs.declared.language.script.Reason.{Reason}
 use Rattle.mesh_model.specs.declared.language.script.Reason.TheVariants.{OutOfRange, Unpaired}
 use Rattle.mesh_model.specs.Geometry.Coordinates.{is_periodic_kind}
-use Rattle.mesh_model.specs.Fields.VariableNames.{VariableNames}
+use Rattle.mesh_model.specs.Fields.VariableNames.{VariableNames, most_cell_variables}
 use Rattle.mesh_model.specs.Language.Words.{word}
 use Rattle.mesh_model.specs.Language.Forms.{◌>>=◌, check, count, one_of, level, side, new_name}
 
@@ -49,7 +49,7 @@ levels shape words = do
 -- cellvar NAME, of which there are four at most
 unfoldable pub cellvar : VariableNames → List (List ℕ) → Result VariableNames Reason
 cellvar names words = do
-  name ← new_name names (nat_le 4 (length names.cells)) (word words 1)
+  name ← new_name names (nat_le most_cell_variables (length names.cells)) (word words 1)
   Ok (record names { cells = names.cells ++ name ∷ [] })
 
 -- facevar NAME, of which there is one at most

@@ -274,9 +274,13 @@ lines_say r n (line ∷ lines) = do
 abbrev pub closed : ℕ → Reading × List Line → Result PlainScript Fault
 closed n read = on_line n (check read.0.ended EndMissing (record { declared = read.0.declared; lines = read.1 }))
 
+-- the most bytes that a script has
+abbrev pub most_bytes : ℕ
+most_bytes = 2 ^ 20
+
 -- the script that the bytes say over the declarations that are given, if any, or the first fault
 unfoldable pub script_of : Option Declared → List ℕ → Result PlainScript Fault
 script_of given bytes =
-    if nat_lt (2 ^ 20) (length bytes) then Err (record { line = 0; reason = TooLong }) else do
+    if nat_lt most_bytes (length bytes) then Err (record { line = 0; reason = TooLong }) else do
       read ← lines_say (at_start given) 1 (lines_of bytes)
       closed (count_by is_line_end bytes + 1) read

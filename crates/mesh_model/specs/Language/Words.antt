@@ -1,6 +1,7 @@
 -- The words of a script: its lines, the words of a line, and which words are numbers and names.
 use Rattle.std.specs.Prelude.{ℕ, ◌+◌, ◌-◌, ◌*◌, Bool, true, false, not, ◌&&◌, ◌||◌, ◌==◌, nat_le, if◌then◌else◌, List, [], ◌∷◌, length, Option, Some, None, ℤ, pos, neg_ℤ, fold, filter, slice_index, slice_index_or, codes, bytes_eq}
 use Rattle.std.specs.List.{slice_split, list_any, list_all}
+use Rattle.mesh_model.specs.Fields.VariableNames.{longest_name}
 
 -- lines are parted by LF
 abbrev pub is_line_end : ℕ → Bool
@@ -67,4 +68,4 @@ is_reserved w = list_any (bytes_eq w) (codes "mesh" ∷ codes "tree" ∷ codes "
 
 -- a name: 1 to 16 bytes, a letter and then letters, digits and _, and not reserved
 unfoldable pub is_name : List ℕ → Bool
-is_name w = nat_le 1 (length w) && nat_le (length w) 16 && is_letter (slice_index w 0) && list_all is_name_byte w && not (is_reserved w)
+is_name w = nat_le 1 (length w) && nat_le (length w) longest_name && is_letter (slice_index w 0) && list_all is_name_byte w && not (is_reserved w)

@@ -48,6 +48,39 @@ text_of m (PrintGuards group at) = guards_text m group at
 text_of m (Total var) = total_text m var
 text_of m NetFlux = netflux_text m
 
+-- what a command may need beside the mesh, and what may fail it then
+pub data Resource : Type 0 where
+  MeshAlone : Resource
+  TheSink : Resource
+  TheMemory : Resource
+  TheDisk : Resource
+
+-- a report needs the sink that takes its text, a regrid memory, a checkpoint the disk
+abbrev pub needs : Command → Resource
+needs (FillAll var value) = MeshAlone
+needs (FillBox var level low high value) = MeshAlone
+needs (FaceSet at value) = MeshAlone
+needs (EdgeSet at value) = MeshAlone
+needs (Uniform b) = MeshAlone
+needs (MarkRefine at) = MeshAlone
+needs (MarkDerefine at) = MeshAlone
+needs (RefineWhere var above) = MeshAlone
+needs (DerefineWhere var below) = MeshAlone
+needs Regrid = TheMemory
+needs (Advect var speeds) = MeshAlone
+needs Curl = MeshAlone
+needs (Induct speeds) = MeshAlone
+needs Checkpoint = TheDisk
+needs PrintSize = TheSink
+needs PrintMesh = TheSink
+needs PrintTree = TheSink
+needs PrintRanks = TheSink
+needs PrintTrace = TheSink
+needs (PrintVar group) = TheSink
+needs (PrintGuards group at) = TheSink
+needs (Total var) = TheSink
+needs NetFlux = TheSink
+
 -- the mesh after it, where it is not refused
 abbrev pub mesh_after : Mesh → Command → Mesh
 mesh_after m (FillAll var value) = fill_all m var value

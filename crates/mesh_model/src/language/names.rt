@@ -2,7 +2,7 @@
 
 ghost use Rattle.std.specs.Prelude.{◌≡◌, ℕ, ◌<◌, ◌≤◌, List, [], ◌∷◌, ◌++◌, length, map, slice_get, IfOk, IfSome, OnOk, OnErr, Option, Some, None};
 ghost use Rattle.std.specs.Option.{option_copied, option_map};
-ghost use Rattle.mesh_model.specs.Fields.VariableNames.{no_names};
+ghost use Rattle.mesh_model.specs.Fields.VariableNames.{longest_name, most_cell_variables, no_names};
 
 use amr_num::OutOfMemory;
 use std::alloc::Global;
@@ -10,9 +10,6 @@ use std::marker::Model;
 
 /// The most cell variables that a mesh has.
 pub const CELL_VARIABLES: u32 = 4;
-
-/// The most bytes that a name has.
-pub const NAME_LENGTH: usize = 16;
 
 /// The names of a mesh's variables: up to four cell variables, in declared order, and the face and the
 /// edge variable where they are declared.
@@ -26,14 +23,13 @@ pub struct Names {
 impl Model for Names {
     ghost use Rattle.std.specs.Prelude.{◌≤◌, All, IfSome, length, map, string_bytes};
     ghost use Rattle.std.specs.Option.{option_map};
-    ghost use Rattle.mesh_model.specs.Fields.VariableNames.{VariableNames};
-    ghost use Rattle.mesh_model.specs.declared.language.names.TheConstants.{CELL_VARIABLES, NAME_LENGTH};
+    ghost use Rattle.mesh_model.specs.Fields.VariableNames.{VariableNames, longest_name, most_cell_variables};
 
     ghost Value = { VariableNames };
 
     ghost view = { λ n. record { cells = map (λ s. string_bytes s) n.cells.items; face = option_map (λ s. string_bytes s) n.face; edge = option_map (λ s. string_bytes s) n.edge } };
 
-    ghost invariant = { λ n. (length n.cells.items ≤ CELL_VARIABLES) × All (λ s. length (string_bytes s) ≤ NAME_LENGTH) n.cells.items × IfSome n.face (λ s. length (string_bytes s) ≤ NAME_LENGTH) × IfSome n.edge (λ s. length (string_bytes s) ≤ NAME_LENGTH) };
+    ghost invariant = { λ n. (length n.cells.items ≤ most_cell_variables) × All (λ s. length (string_bytes s) ≤ longest_name) n.cells.items × IfSome n.face (λ s. length (string_bytes s) ≤ longest_name) × IfSome n.edge (λ s. length (string_bytes s) ≤ longest_name) };
 }
 
 impl Names {
@@ -51,7 +47,7 @@ impl Names {
     /// How many cell variables there are.
     pub fn cells(&self) -> u32
         ensures count { result ≡ length self.now.cells }
-        ensures few { result ≤ CELL_VARIABLES }
+        ensures few { result ≤ most_cell_variables }
     {
         self.cells.len() as u32
     }
@@ -60,7 +56,7 @@ impl Names {
     pub fn cell(&self, v: u32) -> &str
         requires { v < length self.now.cells }
         ensures name { slice_get self.now.cells v ≡ Some result.now }
-        ensures short { length result.now ≤ NAME_LENGTH }
+        ensures short { length result.now ≤ longest_name }
     {
         self.cells[v as usize].as_str()
     }
@@ -68,7 +64,7 @@ impl Names {
     /// The name of the face variable: `None` exactly where none is declared.
     pub fn face(&self) -> Option<&str>
         ensures name { option_copied result ≡ self.now.face }
-        ensures short { IfSome result (λ name. length name.now ≤ NAME_LENGTH) }
+        ensures short { IfSome result (λ name. length name.now ≤ longest_name) }
     {
         match &self.face {
             Some(name) => Some(name.as_str()),
@@ -79,7 +75,7 @@ impl Names {
     /// The name of the edge variable: `None` exactly where none is declared.
     pub fn edge(&self) -> Option<&str>
         ensures name { option_copied result ≡ self.now.edge }
-        ensures short { IfSome result (λ name. length name.now ≤ NAME_LENGTH) }
+        ensures short { IfSome result (λ name. length name.now ≤ longest_name) }
     {
         match &self.edge {
             Some(name) => Some(name.as_str()),
@@ -106,8 +102,8 @@ impl Names {
 
     /// Declares the cell variable `name`, after those before.
     pub fn add_cell(&mut self, alloc: Global, name: &str) -> Result<(), OutOfMemory>
-        requires room { length self.old.cells < CELL_VARIABLES }
-        requires short { length name.now ≤ NAME_LENGTH }
+        requires room { length self.old.cells < most_cell_variables }
+        requires short { length name.now ≤ longest_name }
         ensures ok { OnOk result (self.new ≡ record self.old { cells = self.old.cells ++ name.now ∷ [] }) }
         ensures err { OnErr result (self.new ≡ self.old) }
     {
@@ -123,7 +119,7 @@ impl Names {
 
     /// Declares the face variable `name`.
     pub fn set_face(&mut self, alloc: Global, name: &str) -> Result<(), OutOfMemory>
-        requires { length name.now ≤ NAME_LENGTH }
+        requires { length name.now ≤ longest_name }
         ensures ok { OnOk result (self.new ≡ record self.old { face = Some name.now }) }
         ensures err { OnErr result (self.new ≡ self.old) }
     {
@@ -138,7 +134,7 @@ impl Names {
 
     /// Declares the edge variable `name`.
     pub fn set_edge(&mut self, alloc: Global, name: &str) -> Result<(), OutOfMemory>
-        requires { length name.now ≤ NAME_LENGTH }
+        requires { length name.now ≤ longest_name }
         ensures ok { OnOk result (self.new ≡ record self.old { edge = Some name.now }) }
         ensures err { OnErr result (self.new ≡ self.old) }
     {

@@ -1,7 +1,7 @@
 use Rattle.std.proofs.Common.{◌≡◌, [], Err, IfSome, Some, map, drop, ap, subst, inl, inr, arith, ◌∙◌}
 use Rattle.std.proofs.lemmas.Grind.{common_steps}
 use Rattle.std.specs.Prelude.{string_bytes}
-use Rattle.amr_program.specs.declared.program.TheConstants.{LIMIT}
+use Rattle.amr_program.specs.Answer.{most_read}
 use Rattle.amr_program.proofs.program.answer_words.Goals as goal
 
 pub returns-in-Ok-skip_up_to-clause-outcome : goal.returns-in-Ok-skip_up_to-clause-outcome
@@ -12,6 +12,6 @@ returns-in-Ok-skip_up_to-clause-outcome g c =
     inr (inr (inl (record {
       none = ap (map (λ w. string_bytes w)) none;
       calm = told.calm ∙ ap g.S.Source.faults same;
-      left = subst (λ s. IfSome (g.S.Source.left s) (λ all. g.S.Source.left c.skip_up_to.new.source ≡ Some (drop LIMIT all))) same told.bytes;
+      left = subst (λ s. IfSome (g.S.Source.left s) (λ all. g.S.Source.left c.skip_up_to.new.source ≡ Some (drop most_read all))) same told.bytes;
       ended = c.end-in-Ok-skip_up_to.ensures;
     })))

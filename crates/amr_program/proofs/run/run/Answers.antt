@@ -7,7 +7,7 @@ pub returns-in_err-command-clause-stops : goal.returns-in_err-command-clause-sto
 returns-in_err-command-clause-stops g c =
     let p = err_from_is_err_and c.from_residual.result c.from_residual.ensures.1 in
     let before = c.loop-line.invariant in
-    rw (p.1, p.2) (run_stops _ _ _ c.args.lines.now c.loop-line.line-index _ _ _ _ _ _ _ _ (omega arith) c.in_err-command.ensures.line before.progress before.text before.calm c.in_err-command.ensures.cause c.in_err-command.ensures.memory)
+    rw (p.1, p.2) (run_stops _ _ _ c.args.lines.now c.loop-line.line-index _ _ _ _ _ _ _ _ (omega arith) c.in_err-command.ensures.line before.progress before.text before.calm c.in_err-command.ensures.cause.0 c.in_err-command.ensures.cause.1)
 
 pub loop-line-preserved : goal.loop-line-preserved
 loop-line-preserved g c =

@@ -2,7 +2,7 @@ use Rattle.std.proofs.Common.{All, subst, sym, ap, ◌∙◌}
 use Rattle.mesh_model.specs.Language.Commands.{plain_script}
 use Rattle.amr_engine.specs.Built.{IsBuiltLine}
 use Rattle.amr_engine.specs.Plain.{declared_of, plain}
-use Rattle.amr_engine.specs.Stopping.{Written}
+use Rattle.amr_engine.specs.Stopping.{Written, stopped_by}
 use Rattle.amr_program.specs.Outcome.{Stopped}
 use Rattle.amr_program.proofs.Commands.{at_start, built_lines, built_mesh, built_names, came_done_from, came_stopped, roots_of, shape_of, starved_first}
 use Rattle.amr_program.proofs.run.run_script.Goals as goal
@@ -28,9 +28,9 @@ returns-clause-came g c =
     let stop = c.in-Err-run.stop in
     let w : Written = record { before = g.K.Sink.taken c.args.sink.now; after = g.K.Sink.taken c.run.new.sink; faults = g.K.Sink.faults c.args.sink.now; new_faults = g.K.Sink.faults c.run.new.sink } in
     let ended : Written = record { before = g.K.Sink.taken c.run.new.sink; after = g.K.Sink.taken c.end_stopped.new.sink; faults = g.K.Sink.faults c.run.new.sink; new_faults = g.K.Sink.faults c.end_stopped.new.sink } in
-    let stops = at_start s stop.cause stop.line (plain c.in-Ok.engine) c.deref.result.now w c.in-Ok.ensures.mesh c.deref.ensures.value c.in-Err-run.ensures.stops in
+    let stops = at_start s (stopped_by stop.cause) stop.line (plain c.in-Ok.engine) c.deref.result.now w c.in-Ok.ensures.mesh c.deref.ensures.value c.in-Err-run.ensures.stops in
     let names = ap (λ d. d.names) (c.in-Err-run.ensures.names ∙ c.in-Ok.ensures.declared) in
-    came_stopped s stop.cause stop.line c.end_stopped.result _ _ _ _ _ _ stops (subst (λ n. Stopped stop.cause stop.line n c.end_stopped.result ended) names c.end_stopped.ensures)
+    came_stopped s (stopped_by stop.cause) stop.line c.end_stopped.result _ _ _ _ _ _ stops (subst (λ n. Stopped (stopped_by stop.cause) stop.line n c.end_stopped.result ended) names c.end_stopped.ensures)
 
 pub returns-in-Ok-run-clause-came : goal.returns-in-Ok-run-clause-came
 returns-in-Ok-run-clause-came g c =

@@ -1,7 +1,7 @@
 use Rattle.std.proofs.Common.{length, sym, ap, subst, ◌∙◌, refl}
 use Rattle.mesh_model.specs.declared.language.script.Command.TheVariants.{Advect}
 use Rattle.amr_engine.specs.Plain.{values_of}
-use Rattle.amr_engine.specs.Stopping.{Refuses}
+use Rattle.amr_engine.specs.Stopping.{MayStop, stopped_by}
 use Rattle.amr_engine.proofs.Acted.{allowed, hindered, is_step, kept_out_small, mesh_after_step, range_after, same_size, uniform_after}
 use Rattle.amr_engine.proofs.Vectors.{taken_over, whole_list}
 use Rattle.amr_engine.proofs.engine.Engine.advect.Goals as goal
@@ -50,4 +50,4 @@ pub returns-in-Err-clause-changes : goal.returns-in-Err-clause-changes
 returns-in-Err-clause-changes c =
     let self = c.args.self.now in
     let refused = hindered self.declared self.contents.items self.outs.items c.args.var c.args.speeds c.index-contents.result.now c.deref.result.now c.index-out.result.now self.uniform self.limits self.range c.requires.variable c.index-contents.ensures c.deref.ensures.value c.index-out.ensures c.requires.speeds c.deref_mut.result.now c.try_step.new.next c.in-Err.hindrance c.in-Err.ensures.tries in
-    (subst (λ cause. Refuses cause (values_of self) (Advect c.args.var c.args.speeds)) (sym c.of_advect.ensures) refused, refl)
+    (subst (λ cause. MayStop (stopped_by cause) (values_of self) (Advect c.args.var c.args.speeds)) (sym c.of_advect.ensures) refused, refl)

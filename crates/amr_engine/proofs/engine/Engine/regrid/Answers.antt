@@ -16,8 +16,8 @@ invariant_of-self c =
       at_roots = λ some. absurd (let none = c.requires.bare in omega (arith, some, none));
     }
 
-pub returns-clause-regrows : goal.returns-clause-regrows
-returns-clause-regrows c =
+pub returns-clause-changes : goal.returns-clause-changes
+returns-clause-changes c =
     let self = c.args.self.now in
     let told = c.regrid.ensures (mesh_in self.declared (contents_of self) self.outs.items self.hierarchy) (has_own self.declared (contents_of self) self.outs.items self.hierarchy) in
     regrows self.declared (contents_of self) self.outs.items self.hierarchy c.requires.bare self.uniform c.regrid.result c.regrid.new.self told

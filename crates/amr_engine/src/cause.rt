@@ -1,0 +1,85 @@
+//! Why a command stopped.
+
+use crate::advection::Hindrance;
+use amr_num::BlockAt;
+use mesh_model::run::stops::{LevelStop, Refusal};
+use mesh_model::{Group, RangeStop, Spot};
+
+/// Why a command stopped.
+#[derive(Clone, Copy, Debug, PartialEq, Eq)]
+pub enum Cause {
+    /// It would store a number out of range: the first of them in the walk through the mesh.
+    Range(RangeStop),
+    /// Its speeds move more than one finest cell a step.
+    Courant([i64; 3]),
+    /// It marks a leaf at the limit of levels.
+    Level(LevelStop),
+    /// It names no canonical leaf face, or no canonical leaf edge.
+    Place(Spot),
+    /// It names no leaf.
+    PlaceBlock(BlockAt),
+    /// It would make more nodes than the limit: how many.
+    Blocks(u32),
+    /// The sink failed.
+    WriteFault,
+    /// Memory was refused.
+    OutOfMemory,
+}
+
+/// What stopped a command.
+#[derive(Clone, Copy, Debug, PartialEq, Eq)]
+pub enum StoppedBy {
+    /// The mesh, which refuses it.
+    Mesh(Refusal),
+    /// The sink, which failed.
+    Sink,
+    /// Want of memory.
+    Memory,
+}
+
+/// A command that was stopped: the number of its line, and why.
+#[derive(Clone, Copy, Debug, PartialEq, Eq)]
+pub struct Stop {
+    /// The line of the script, from 1.
+    pub line: u32,
+    pub cause: Cause,
+}
+
+impl Cause {
+    ghost use Rattle.amr_engine.specs.Stopping as plain;
+    ghost use Rattle.std.specs.Prelude.{◌≡◌};
+
+    /// What stopped the command: here alone causes are told apart.
+    pub fn stopped_by(self) -> StoppedBy
+        ensures { result ≡ plain.stopped_by self }
+    {
+        match self {
+            Cause::Range(stop) => StoppedBy::Mesh(Refusal::Range(stop)),
+            Cause::Courant(speeds) => StoppedBy::Mesh(Refusal::Courant(speeds)),
+            Cause::Level(stop) => StoppedBy::Mesh(Refusal::Level(stop)),
+            Cause::Place(spot) => StoppedBy::Mesh(Refusal::Place(spot)),
+            Cause::PlaceBlock(at) => StoppedBy::Mesh(Refusal::PlaceBlock(at)),
+            Cause::Blocks(count) => StoppedBy::Mesh(Refusal::Blocks(count)),
+            Cause::WriteFault => StoppedBy::Sink,
+            Cause::OutOfMemory => StoppedBy::Memory,
+        }
+    }
+
+    /// Why an advect of the variable at the speeds stops.
+    pub(crate) fn of_advect(var: u32, speeds: [i64; 3], hindrance: Hindrance) -> Cause
+        ensures { result ≡ plain.cause_told var speeds hindrance }
+    {
+        let out_of_range = |spot, value| {
+            Cause::Range(RangeStop {
+                var: Group::Cell(var),
+                spot,
+                value,
+            })
+        };
+        match hindrance {
+            Hindrance::TooFast => Cause::Courant(speeds),
+            Hindrance::Content(above) => out_of_range(Spot::Cell(above.cell), above.value),
+            Hindrance::FlowedOut(out) => out_of_range(Spot::Out, out),
+        }
+    }
+}
