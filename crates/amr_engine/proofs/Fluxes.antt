@@ -8,6 +8,7 @@ use Rattle.amr_num.specs.declared.CellAt.{CellAt}
 use Rattle.amr_num.specs.declared.FaceAt.{FaceAt}
 use Rattle.amr_num.specs.declared.SideKind.{SideKind}
 use Rattle.amr_num.specs.declared.SideKind.TheVariants.{Periodic, Outflow, Closed}
+use Rattle.mesh_model.proofs.GeometryLemmas.OnAxes.{on_with, with_own}
 use Rattle.mesh_model.specs.declared.geometry.Shape.{Shape}
 use Rattle.mesh_model.specs.Fields.Advect.{above_or, below_or, blown_from, donor, is_closed_at, is_closed_kind, leaf_flux, speed, three}
 use Rattle.mesh_model.specs.Geometry.Coordinates.{after, extent, face_of, high_cell, is_periodic, is_periodic_kind, low_cell, on, side_index, side_kind, with, wrapped}
@@ -60,20 +61,10 @@ with_level X p c = refl
 with_level Y p c = refl
 with_level Z p c = refl
 
-with_own : (a : Axis) (c : CellAt) → with a (on a c) c ≡ c
-with_own X c = refl
-with_own Y c = refl
-with_own Z c = refl
-
 with_twice : (a : Axis) (p q : ℕ) (c : CellAt) → with a p (with a q c) ≡ with a p c
 with_twice X p q c = refl
 with_twice Y p q c = refl
 with_twice Z p q c = refl
-
-on_with : (a : Axis) (p : ℕ) (c : CellAt) → on a (with a p c) ≡ p
-on_with X p c = refl
-on_with Y p c = refl
-on_with Z p c = refl
 
 below_extent : (s : Shape) (a : Axis) (c : CellAt) → IsCell s c → on a c < extent s a c.level
 below_extent s X c cell = subst (λ l. c.x < extent s X l) (sym cell.level) cell.x

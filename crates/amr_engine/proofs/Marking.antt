@@ -9,14 +9,13 @@ use Rattle.mesh_model.specs.declared.run.stops.Refusal.TheVariants as refusals
 use Rattle.mesh_model.specs.Geometry.Limits.{most_nodes}
 use Rattle.mesh_model.specs.Tree.Order.{nodes}
 use Rattle.mesh_model.specs.Tree.Kinds.{Grid, is_leaf_block}
-use Rattle.mesh_model.specs.Fields.Plain.{Mesh}
+use Rattle.mesh_model.specs.Fields.Plain.{Mesh, marked}
 use Rattle.mesh_model.specs.Tree.Regrown.{new_grid, regrown}
 use Rattle.mesh_model.specs.Fields.Regrid.{regrid}
 use Rattle.mesh_model.specs.Run.Runs.{mesh_after}
 use Rattle.mesh_model.specs.Geometry.Blocks.{is_same_block}
 use Rattle.mesh_model.specs.Fields.Setting.{mark_derefine, mark_refine}
 use Rattle.mesh_model.specs.Run.Stops.{nodes_of, range_of, refusal}
-use Rattle.mesh_model.proofs.TreeLemmas.Tiling.{leaf_says, leaf_shows}
 use Rattle.block_tree.specs.declared.marks.Marks.{Marks}
 use Rattle.block_tree.specs.declared.tree.Tree.{Tree}
 use Rattle.block_tree.specs.GridOf.{grid_of}
@@ -25,24 +24,10 @@ use Rattle.block_tree.specs.Marked.{IsMarksOf, derefine_of, refine_of}
 use Rattle.block_tree.proofs.Flags.{same_shows}
 use Rattle.refine_marks.specs.declared.plan.Plan.{Plan}
 use Rattle.refine_marks.specs.Flags.{AddsBlock, IsSameSet}
-use Rattle.refine_marks.specs.Planned.{HasMarks, merged_by, refined_by}
-use Rattle.amr_engine.specs.Marking.{AreMarks}
+use Rattle.refine_marks.specs.Planned.{HasMarks, marked_by, merged_by, refined_by}
+use Rattle.refine_marks.proofs.Valued.{is_marked_by}
 
-pub marks_are : (g : Grid) (marks : Marks) → AreMarks g marks → IsMarksOf g marks
-marks_are g marks are = record {
-  room = are.enough;
-  refine = λ b h. let told = are.refine b h in (leaf_says g b told.0, told.1);
-  derefine = λ b h. let told = are.derefine b h in (leaf_says g b told.0, told.1);
-}
-
-pub are_marks : (g : Grid) (marks : Marks) → IsMarksOf g marks → AreMarks g marks
-are_marks g marks are = record {
-  enough = are.room;
-  refine = λ b h. let told = are.refine b h in (leaf_shows g b told.0, told.1);
-  derefine = λ b h. let told = are.derefine b h in (leaf_shows g b told.0, told.1);
-}
-
-module _ (m : Mesh) (tree : Tree) (old : Marks) (at : BlockAt) (fits : HasMarks m tree old) where
+module _ (m : Mesh) (tree : Tree) (old : Marks) (at : BlockAt) (fits : HasMarks (marked m) tree old) where
   leaf_in : (b : Bool) → is_leaf_block (grid_of tree) at ≡ b → is_leaf_block m.grid at ≡ b
   leaf_in b h = ap (λ g. is_leaf_block g at) fits.grid ∙ h
 
@@ -74,11 +59,11 @@ module _ (m : Mesh) (tree : Tree) (old : Marks) (at : BlockAt) (fits : HasMarks 
     -- the mark is set
     module _ (new : Marks) (marks : IsMarksOf (grid_of tree) new) where
       pub refine_set : AddsBlock at (refine_of (grid_of tree) old) (refine_of (grid_of tree) new) → IsSameSet (derefine_of (grid_of tree) old) (derefine_of (grid_of tree) new) →
-          (refusal m (MarkRefine at) ≡ None) × HasMarks (mesh_after m (MarkRefine at)) tree new
+          (refusal m (MarkRefine at) ≡ None) × HasMarks (marked (mesh_after m (MarkRefine at))) tree new
       unfolding refusal mark_refine
       refine_set adds same =
           let set : refine_of (grid_of tree) new at ≡ true = adds at ∙ or_left (is_same_block at at) (refine_of (grid_of tree) old at) (same_shows at at refl) in
-          let below : nat_lt at.level m.grid.shape.max ≡ true = lt-ltb at.level m.grid.shape.max (let most = ap (λ g. g.shape.max) fits.grid in let low = (marks.refine at set).1 in omega (arith, most, low)) in (
+          let below : nat_lt at.level m.grid.shape.max ≡ true = lt-ltb at.level m.grid.shape.max (let most = ap (λ g. g.shape.max) fits.grid in let low = (marks.fit.refine at set).1 in omega (arith, most, low)) in (
             rw (leaf_in true leaf, below) refl,
             record {
               grid = fits.grid;
@@ -88,11 +73,11 @@ module _ (m : Mesh) (tree : Tree) (old : Marks) (at : BlockAt) (fits : HasMarks 
           )
 
       pub derefine_set : AddsBlock at (derefine_of (grid_of tree) old) (derefine_of (grid_of tree) new) → IsSameSet (refine_of (grid_of tree) old) (refine_of (grid_of tree) new) →
-          (refusal m (MarkDerefine at) ≡ None) × HasMarks (mesh_after m (MarkDerefine at)) tree new
+          (refusal m (MarkDerefine at) ≡ None) × HasMarks (marked (mesh_after m (MarkDerefine at))) tree new
       unfolding refusal mark_derefine
       derefine_set adds same =
           let set : derefine_of (grid_of tree) new at ≡ true = adds at ∙ or_left (is_same_block at at) (derefine_of (grid_of tree) old at) (same_shows at at refl) in
-          let above : nat_lt m.grid.shape.min at.level ≡ true = lt-ltb m.grid.shape.min at.level (let least = ap (λ g. g.shape.min) fits.grid in let high = (marks.derefine at set).1 in omega (arith, least, high)) in (
+          let above : nat_lt m.grid.shape.min at.level ≡ true = lt-ltb m.grid.shape.min at.level (let least = ap (λ g. g.shape.min) fits.grid in let high = (marks.fit.derefine at set).1 in omega (arith, least, high)) in (
             rw (leaf_in true leaf, above) refl,
             record {
               grid = fits.grid;
@@ -103,17 +88,18 @@ module _ (m : Mesh) (tree : Tree) (old : Marks) (at : BlockAt) (fits : HasMarks 
 
 -- ---- regrid
 
-pub grid_is : (m : Mesh) (tree : Tree) (marks : Marks) (plan : Plan) (refine merge : List Bool) → HasMarks m tree marks → new_grid m ≡ regrown m.grid (refined_by m.grid plan) (merged_by m.grid plan) →
-    refine ≡ plan.refine.items → merge ≡ plan.merge.items → new_grid m ≡ grid_after (grid_of tree) refine merge
+pub grid_is : (m : Mesh) (tree : Tree) (marks : Marks) (plan : Plan) (refine merge : List Bool) → HasMarks (marked m) tree marks →
+    new_grid (marked_by tree marks) ≡ regrown (grid_of tree) (refined_by (grid_of tree) plan) (merged_by (grid_of tree) plan) →
+    refine ≡ plan.refine.items → merge ≡ plan.merge.items → new_grid (marked m) ≡ grid_after (grid_of tree) refine merge
 grid_is m tree marks plan refine merge fits new refine_is merge_is =
-    new ∙ ap (λ g. regrown g (refined_by g plan) (merged_by g plan)) fits.grid ∙ ap₂ (grid_after (grid_of tree)) (sym refine_is) (sym merge_is)
+    ap new_grid (is_marked_by (marked m) tree marks fits) ∙ new ∙ ap₂ (grid_after (grid_of tree)) (sym refine_is) (sym merge_is)
 
 -- there would be too many nodes
-pub too_many : (m : Mesh) (g : Grid) (count : ℕ) → new_grid m ≡ g → (count ≡ length (nodes g.leaves)) × (most_nodes g.shape < count) → refusal m Regrid ≡ Some (refusals.Blocks count)
+pub too_many : (m : Mesh) (g : Grid) (count : ℕ) → new_grid (marked m) ≡ g → (count ≡ length (nodes g.leaves)) × (most_nodes g.shape < count) → refusal m Regrid ≡ Some (refusals.Blocks count)
 unfolding refusal
 too_many m g count is told =
-    let many : length (nodes (new_grid m).leaves) ≡ count = ap (λ h. length (nodes h.leaves)) is ∙ sym told.0 in
+    let many : length (nodes (new_grid (marked m)).leaves) ≡ count = ap (λ h. length (nodes h.leaves)) is ∙ sym told.0 in
     let same : most_nodes m.grid.shape ≡ most_nodes g.shape = ap (λ h. most_nodes h.shape) is in
-    let over : nat_le (length (nodes (new_grid m).leaves)) (most_nodes m.grid.shape) ≡ false = lt-leb (length (nodes (new_grid m).leaves)) (most_nodes m.grid.shape) (let more = told.1 in omega (arith, many, same, more)) in
+    let over : nat_le (length (nodes (new_grid (marked m)).leaves)) (most_nodes m.grid.shape) ≡ false = lt-leb (length (nodes (new_grid (marked m)).leaves)) (most_nodes m.grid.shape) (let more = told.1 in omega (arith, many, same, more)) in
     let stops : nodes_of m ≡ Some (refusals.Blocks count) = rw over (ap (λ n. Some (refusals.Blocks n)) many) in
     ap (λ o. option_or o (range_of (regrid m))) stops

@@ -8,6 +8,7 @@ use Rattle.amr_num.specs.declared.BlockAt.{BlockAt}
 use Rattle.amr_num.specs.declared.CellAt.{CellAt}
 use Rattle.amr_num.specs.declared.FaceAt.{FaceAt}
 use Rattle.amr_num.specs.declared.EdgeAt.{EdgeAt}
+use Rattle.mesh_model.proofs.FieldLemmas.AdvectStops.{map_none, none_found, not_above}
 use Rattle.mesh_model.specs.declared.language.script.Command.{Command}
 use Rattle.mesh_model.specs.declared.language.script.Command.TheVariants.{MarkDerefine, MarkRefine, Regrid}
 use Rattle.mesh_model.specs.declared.language.script.Declared.{Declared}
@@ -16,7 +17,7 @@ use Rattle.mesh_model.specs.declared.run.stops.Refusal.TheVariants as refusals
 use Rattle.mesh_model.specs.Geometry.Limits.{most_nodes}
 use Rattle.mesh_model.specs.Tree.Order.{nodes}
 use Rattle.mesh_model.specs.Tree.Kinds.{Grid, is_leaf, is_leaf_edge, is_leaf_face}
-use Rattle.mesh_model.specs.Fields.Plain.{Mesh, on_cells}
+use Rattle.mesh_model.specs.Fields.Plain.{marked, Mesh, on_cells}
 use Rattle.mesh_model.specs.Geometry.Canonical.{is_canonical, is_canonical_edge}
 use Rattle.mesh_model.specs.Fields.RangeWalk.{cell_above, cells_walked, edge_above, edges_walked, face_above, faces_walked, first_cell_above, first_excess, first_of_all, is_above, out_above, variables}
 use Rattle.mesh_model.specs.Tree.Regrown.{new_grid}
@@ -41,7 +42,6 @@ use Rattle.amr_engine.specs.Growth as growth
 use Rattle.amr_engine.specs.Growth.{HasHierarchy, Regrids, grid_in}
 use Rattle.amr_engine.specs.Stopping.{Changes, MayStop, stopped_by}
 use Rattle.amr_engine.specs.UniformMesh.{uniform_mesh}
-use Rattle.amr_engine.proofs.Marking.{marks_are}
 
 -- ---- at the roots
 
@@ -123,16 +123,6 @@ derefine_grid (Err cause) d contents outs old new at marks = sym marks.1.grid
 
 -- ---- numbers in range
 
-not_above : (most : ℕ) (z : ℤ) → Within most z → is_above most z ≡ false
-not_above most z h = le-ltb most (unsigned_abs z) h
-
-none_found : {A : Type 0} (p : A → Bool) (xs : List A) → ((x : A) → p x ≡ false) → find p xs ≡ None
-none_found p [] h = refl
-none_found p (x ∷ xs) h = rw (h x) (none_found p xs h)
-
-map_none : {A B : Type 0} (f : A → B) (o : Option A) → o ≡ None → option_map f o ≡ None
-map_none f o h = rw h refl
-
 none_of_all : (at : ℕ → Option RangeStop) (vs : List ℕ) → ((v : ℕ) → at v ≡ None) → first_of_all at vs ≡ None
 none_of_all at [] h = refl
 none_of_all at (v ∷ vs) h = rw (h v) (none_of_all at vs h)
@@ -180,13 +170,13 @@ module _ (d : Declared) (contents : List (List ℤ)) (outs : List ℤ) (old : Hi
   no_edge e = refl
 
   new_cell : (v : ℕ) (c : CellAt) → (regrid before).cells v c ≡ pos 0
-  new_cell v c = zero_or (is_leaf (new_grid before) c) (no_cell_views before.grid (before.cells v) (no_content v) c)
+  new_cell v c = zero_or (is_leaf (new_grid (marked before)) c) (no_cell_views before.grid (before.cells v) (no_content v) c)
 
   new_face : (f : FaceAt) → (regrid before).faces f ≡ pos 0
-  new_face f = zero_or (is_canonical before.grid.shape f && is_leaf_face (new_grid before) f) (no_face_views before.grid before.faces no_face f)
+  new_face f = zero_or (is_canonical before.grid.shape f && is_leaf_face (new_grid (marked before)) f) (no_face_views before.grid before.faces no_face f)
 
   new_edge : (e : EdgeAt) → (regrid before).edges e ≡ pos 0
-  new_edge e = zero_or (is_canonical_edge before.grid.shape e && is_leaf_edge (new_grid before) e) (no_edge_views before.grid before.edges no_edge e)
+  new_edge e = zero_or (is_canonical_edge before.grid.shape e && is_leaf_edge (new_grid (marked before)) e) (no_edge_views before.grid before.edges no_edge e)
 
   in_range_after : InRange (regrid before)
   in_range_after = record {
@@ -197,7 +187,7 @@ module _ (d : Declared) (contents : List (List ℤ)) (outs : List ℤ) (old : Hi
   }
 
   -- the mesh after
-  regrid_is : (new : Hierarchy) → grid_in new ≡ new_grid before → HasHierarchy (regrid before) new → mesh_in d contents outs new ≡ regrid before
+  regrid_is : (new : Hierarchy) → grid_in new ≡ new_grid (marked before) → HasHierarchy (regrid before) new → mesh_in d contents outs new ≡ regrid before
   unfolding engine_mesh
   regrid_is new e has = λ i. record {
     grid = e i;
@@ -210,9 +200,9 @@ module _ (d : Declared) (contents : List (List ℤ)) (outs : List ℤ) (old : Hi
     derefine = λ b. sym (has.derefine b) i;
   }
 
-  few_allowed : FewNodes (new_grid before) → refusal before Regrid ≡ None
+  few_allowed : FewNodes (new_grid (marked before)) → refusal before Regrid ≡ None
   unfolding refusal
-  few_allowed few = rw (le-leb (length (nodes (new_grid before).leaves)) (most_nodes before.grid.shape) few) (ap (option_map refusals.Range) (in_range_none (regrid before) in_range_after))
+  few_allowed few = rw (le-leb (length (nodes (new_grid (marked before)).leaves)) (most_nodes before.grid.shape) few) (ap (option_map refusals.Range) (in_range_none (regrid before) in_range_after))
 
   pub regrows : (result : Result (Unit {0}) Cause) (new : Hierarchy) → Regrids result before new → Changes result before Regrid (mesh_in d contents outs new)
   regrows (Ok done) new told = (few_allowed told.1, regrid_is new told.0 (told.2 (regrid before) refl (λ b. refl) (λ b. refl)))
@@ -231,7 +221,6 @@ pub whole_valid : (d : Declared) (contents : List (List ℤ)) (outs : List ℤ) 
 unfolding engine_mesh uniform_mesh
 whole_valid d contents outs h limits uniform range shaped roots =
     let tree = known h.tree in
-    let marks = marks_are (grid_in h) h.marks h.marked in
     record {
       grid = tree.valid;
       order = tree.order;
@@ -257,5 +246,5 @@ whole_valid d contents outs h limits uniform range shaped roots =
         faces = range.faces;
         edges = range.edges;
       };
-      marks = record { refine = marks.refine; derefine = marks.derefine };
+      marks = h.marked.fit;
     }

@@ -4,7 +4,7 @@ use Rattle.amr_num.specs.declared.BlockAt.{BlockAt}
 use Rattle.mesh_model.specs.declared.language.script.Command.{Command}
 use Rattle.mesh_model.specs.declared.language.script.Command.TheVariants.{Regrid}
 use Rattle.mesh_model.specs.Tree.Kinds.{Grid}
-use Rattle.mesh_model.specs.Fields.Plain.{Mesh}
+use Rattle.mesh_model.specs.Fields.Plain.{Mesh, marked}
 use Rattle.mesh_model.specs.Tree.Regrown.{new_grid}
 use Rattle.mesh_model.specs.Run.Runs.{mesh_after}
 use Rattle.mesh_model.specs.Run.Stops.{refusal}
@@ -21,7 +21,7 @@ grid_in h = grid_of h.tree
 
 -- the mesh has this tree and these marks
 abbrev pub HasHierarchy : Mesh → Hierarchy → Type 0
-HasHierarchy m h = HasMarks m h.tree h.marks
+HasHierarchy m h = HasMarks (marked m) h.tree h.marks
 
 -- a mark is set; or the command is stopped, and tree and marks stay
 abbrev pub Marks : Result (Unit {0}) Cause → Mesh → Command → Hierarchy → Type 0
@@ -30,5 +30,5 @@ Marks (Err cause) m command new = MayStop (stopped_by cause) m command × HasHie
 
 -- the tree is that after regrid, without marks; or the command is stopped, and tree and marks stay
 abbrev pub Regrids : Result (Unit {0}) Cause → Mesh → Hierarchy → Type 0
-Regrids (Ok done) m new = (grid_in new ≡ new_grid m) × FewNodes (new_grid m) × ((m' : Mesh) → m'.grid ≡ new_grid m → ((b : BlockAt) → m'.refine b ≡ false) → ((b : BlockAt) → m'.derefine b ≡ false) → HasHierarchy m' new)
+Regrids (Ok done) m new = (grid_in new ≡ new_grid (marked m)) × FewNodes (new_grid (marked m)) × ((m' : Mesh) → m'.grid ≡ new_grid (marked m) → ((b : BlockAt) → m'.refine b ≡ false) → ((b : BlockAt) → m'.derefine b ≡ false) → HasHierarchy m' new)
 Regrids (Err cause) m new = MayStop (stopped_by cause) m Regrid × HasHierarchy m new

@@ -4,7 +4,6 @@ pub mod UniformMesh
 pub mod EngineMesh
 pub mod Plain
 pub mod Stopping
-pub mod Marking
 pub mod Growth
 pub mod Stepping
 pub mod Built

@@ -1,8 +1,7 @@
 //! The tree of a mesh with the marks on its leaves.
 
-ghost use Rattle.amr_engine.specs.Marking.{AreMarks};
 ghost use Rattle.block_tree.specs.GridOf.{grid_of};
-ghost use Rattle.block_tree.specs.Marked.{room as room_of};
+ghost use Rattle.block_tree.specs.Marked.{IsMarksOf, room as room_of};
 ghost use Rattle.mesh_model.specs.Geometry.Limits.{most_nodes};
 ghost use Rattle.std.specs.Prelude.{◌≡◌};
 
@@ -18,7 +17,7 @@ use std::alloc::Global;
 pub struct Hierarchy {
     tree: Tree,
     marks: Marks,
-    pub ghost marked: { AreMarks (grid_of tree) marks },
+    pub ghost marked: { IsMarksOf (grid_of tree) marks },
     pub ghost room: { room_of marks ≡ most_nodes (grid_of tree).shape },
 }
 

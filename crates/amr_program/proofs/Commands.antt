@@ -284,44 +284,14 @@ roots_of d limits =
     }
   where
     some_on : (a : Axis) → 0 < roots d.shape a
-    some_on X = limits.shape.rx.0
-    some_on Y = limits.shape.ry.0
-    some_on Z = limits.shape.rz.0
+    some_on X = limits.shape.rx
+    some_on Y = limits.shape.ry
+    some_on Z = limits.shape.rz
 
     few_on : (a : Axis) → roots d.shape a ≤ 8
-    few_on X = limits.shape.rx.1
-    few_on Y = limits.shape.ry.1
-    few_on Z = limits.shape.rz.1
-
-side_kind_is : (sides : List SideKind) (k : ℕ) → side_kind sides k ≡ get_or sides k Periodic
-side_kind_is [] k = refl
-side_kind_is (side ∷ sides) zero = refl
-side_kind_is (side ∷ sides) (suc k) = side_kind_is sides k
-
--- the limits of the language are those of a mesh
-pub shape_of : (d : Declared) → InLimits d → IsShape d.shape
-shape_of d limits = record {
-  rx = limits.shape.rx.0;
-  ry = limits.shape.ry.0;
-  rz = limits.shape.rz.0;
-  few_x = limits.shape.rx.1;
-  few_y = limits.shape.ry.1;
-  few_z = limits.shape.rz.1;
-  cells = limits.shape.n;
-  guards = limits.shape.g;
-  min = limits.shape.levels.0;
-  max = limits.shape.levels.1;
-  six = limits.shape.sides.six;
-  both = paired;
-}
-  where
-    same : (a b : ℕ) → is_periodic_kind (get_or d.shape.sides a Periodic) ≡ is_periodic_kind (get_or d.shape.sides b Periodic) → is_periodic_kind (side_kind d.shape.sides a) ≡ is_periodic_kind (side_kind d.shape.sides b)
-    same a b e = ap is_periodic_kind (side_kind_is d.shape.sides a) ∙ e ∙ ap is_periodic_kind (sym (side_kind_is d.shape.sides b))
-
-    paired : (a : Axis) → is_periodic_kind (side_kind d.shape.sides (side_index a)) ≡ is_periodic_kind (side_kind d.shape.sides (suc (side_index a)))
-    paired X = same 0 1 limits.shape.sides.x
-    paired Y = same 2 3 limits.shape.sides.y
-    paired Z = same 4 5 limits.shape.sides.z
+    few_on X = limits.shape.few_x
+    few_on Y = limits.shape.few_y
+    few_on Z = limits.shape.few_z
 
 -- ---- laws along a run
 
@@ -331,7 +301,7 @@ first_is s = refl
 -- what holds at each command of a run from a valid mesh holds along a script that is run
 module _ (R : Mesh → Command → Mesh → Type 0) (law : (m : Mesh) (lines : List Line) → ValidMesh m → All (IsLineOf (declared_in m)) lines → AtEachCommand R m (done m lines)) where
   kept_by : (built : Bool) (s : PlainScript) → InLimits s.declared → All (IsLineOf s.declared) s.lines → AlongRun R (if built then Ok s else Err refusals.NotBuilt)
-  kept_by true s limits lines = law (first_mesh s) s.lines (start_mesh_valid s.declared.shape s.declared.names (shape_of s.declared limits) limits.names.few) lines
+  kept_by true s limits lines = law (first_mesh s) s.lines (start_mesh_valid s.declared.shape s.declared.names limits.shape limits.names.few) lines
   kept_by false s limits lines = tt
 
   kept : (bytes : List ℕ) → (read : Result PlainScript Fault) → script_of None bytes ≡ read → AlongRun R (admitted read)

@@ -18,3 +18,4 @@ pub use geometry::coordinates::{
 pub use geometry::{
     Shape, around_edge, inside_cell, inside_edge, inside_face, side_cells, touches,
 };
+pub use tree::NodeKind;

@@ -4,7 +4,7 @@ use Rattle.amr_engine.specs.Built.{IsBuiltLine}
 use Rattle.amr_engine.specs.Plain.{declared_of, plain}
 use Rattle.amr_engine.specs.Stopping.{Written, stopped_by}
 use Rattle.amr_program.specs.Outcome.{Stopped}
-use Rattle.amr_program.proofs.Commands.{at_start, built_lines, built_mesh, built_names, came_done_from, came_stopped, roots_of, shape_of, starved_first}
+use Rattle.amr_program.proofs.Commands.{at_start, built_lines, built_mesh, built_names, came_done_from, came_stopped, roots_of, starved_first}
 use Rattle.amr_program.proofs.run.run_script.Goals as goal
 
 pub returns-in-Err-clause-came : goal.returns-in-Err-clause-came
@@ -14,7 +14,7 @@ pub new-requires-clause-roots : goal.new-requires-clause-roots
 new-requires-clause-roots g c = roots_of _ c.requires.limits
 
 pub new-requires-clause-shape : goal.new-requires-clause-shape
-new-requires-clause-shape g c = shape_of c.args.script.declared c.requires.limits
+new-requires-clause-shape g c = c.requires.limits.shape
 
 pub new-requires-clause-groups : goal.new-requires-clause-groups
 new-requires-clause-groups g c = built_names _ (built_mesh (plain_script c.args.script) c.requires.built)

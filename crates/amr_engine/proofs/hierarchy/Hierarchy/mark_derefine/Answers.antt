@@ -1,16 +1,17 @@
 use Rattle.std.proofs.Common.{◌≤◌, subst, sym, ap, ◌∙◌, refl}
+use Rattle.mesh_model.specs.Fields.Plain.{marked}
 use Rattle.block_tree.specs.GridOf.{grid_of}
 use Rattle.block_tree.specs.Marked.{derefine_of}
 use Rattle.refine_marks.specs.Flags.{AddsBlock}
 use Rattle.refine_marks.specs.Planned.{HasMarks}
-use Rattle.amr_engine.proofs.Marking.{marks_are, no_leaf_derefine, derefine_set, too_coarse}
+use Rattle.amr_engine.proofs.Marking.{no_leaf_derefine, derefine_set, too_coarse}
 use Rattle.amr_engine.proofs.hierarchy.Hierarchy.mark_derefine.Goals as goal
 
 pub returns-in-None : goal.returns-in-None
 returns-in-None c m fits = (no_leaf_derefine m c.args.self.now.tree c.args.self.now.marks c.args.at fits c.in-None.ensures, fits)
 
 pub set_derefine-requires-clause-marks : goal.set_derefine-requires-clause-marks
-set_derefine-requires-clause-marks c = marks_are (grid_of c.args.self.now.tree) c.args.self.now.marks c.args.self.now.marked
+set_derefine-requires-clause-marks c = c.args.self.now.marked
 
 pub returns-in-Ok : goal.returns-in-Ok
 returns-in-Ok c m fits =
@@ -26,5 +27,5 @@ returns-in-Err c m fits =
     let limit = c.in-Err.ensures.refused.0 refl in
     let stop = c.in-Err.ensures.stop in (
       too_coarse m self.tree self.marks c.args.at fits c.in-Some.ensures.0 c.in-Err.stop (subst (λ l. l ≤ (grid_of self.tree).shape.min) (ap (λ b. b.level) node.block) limit) (stop ∙ ap (λ b. record { level = b.level; limit = (grid_of self.tree).shape.min }) node.block),
-      subst (λ marks. HasMarks m self.tree marks) (sym c.in-Err.ensures.unchanged) fits,
+      subst (λ marks. HasMarks (marked m) self.tree marks) (sym c.in-Err.ensures.unchanged) fits,
     )

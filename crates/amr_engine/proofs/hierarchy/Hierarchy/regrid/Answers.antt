@@ -2,16 +2,16 @@ use Rattle.std.proofs.Common.{Some, sym, ap, subst, ◌∙◌}
 use Rattle.mesh_model.specs.declared.run.stops.Refusal.TheVariants as refusals
 use Rattle.block_tree.specs.GridOf.{grid_of}
 use Rattle.block_tree.specs.Growing.{IsGrowStop, grid_after}
-use Rattle.amr_engine.proofs.Marking.{grid_is, marks_are, too_many}
+use Rattle.amr_engine.proofs.Marking.{grid_is, too_many}
 use Rattle.amr_engine.proofs.hierarchy.Hierarchy.regrid.Goals as goal
 
 pub close-requires : goal.close-requires
-close-requires c = marks_are (grid_of c.args.self.now.tree) c.args.self.now.marks c.args.self.now.marked
+close-requires c = c.args.self.now.marked
 
 pub returns-in-Err-Blocks : goal.returns-in-Err-Blocks
 returns-in-Err-Blocks c m fits =
     let self = c.args.self.now in
     let g = grid_after (grid_of self.tree) c.deref.result.now c.deref-2.result.now in
-    let new = grid_is m self.tree self.marks c.in-Ok.plan c.deref.result.now c.deref-2.result.now fits (c.in-Ok.ensures.new_grid m fits) c.deref.ensures.value c.deref-2.ensures.value in
+    let new = grid_is m self.tree self.marks c.in-Ok.plan c.deref.result.now c.deref-2.result.now fits c.in-Ok.ensures.new_grid c.deref.ensures.value c.deref-2.ensures.value in
     let told = subst (IsGrowStop g) c.in-Err-Blocks.field-0-is c.in-Err-Blocks.ensures.stop in
     (too_many m g c.in-Err-Blocks.count new told ∙ ap (λ n. Some (refusals.Blocks n)) (sym c.in-Err-Blocks.count-is), fits)
