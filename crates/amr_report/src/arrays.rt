@@ -5,6 +5,7 @@ ghost use Rattle.amr_report.specs.Arrays.{AreThere, IsSmall};
 ghost use Rattle.amr_report.specs.Printing.{Prints, with_words};
 ghost use Rattle.amr_num.specs.declared.Axis.{Axis};
 ghost use Rattle.amr_num.specs.declared.Axis.TheVariants as axis;
+ghost use Rattle.mesh_model.specs.Geometry.Places as places;
 ghost use Rattle.mesh_model.specs.Run.Texts as texts;
 ghost use Rattle.std.specs.Prelude.{◌≡◌, ◌+◌, ◌*◌, ◌<◌, ◌≤◌, length};
 
@@ -28,7 +29,7 @@ pub struct Shown {
 /// How many places along an axis there are on faces with a normal, of a block with so many cells along each axis.
 fn longer_on(normal: Axis, axis: Axis, cells: u32) -> u32
     requires { cells ≤ 8 }
-    ensures { result ≡ texts.longer_on normal axis cells }
+    ensures { result ≡ places.longer_on normal axis cells }
 {
     if normal == axis { cells + 1 } else { cells }
 }
@@ -36,7 +37,7 @@ fn longer_on(normal: Axis, axis: Axis, cells: u32) -> u32
 /// How many places along an axis there are on edges along another.
 fn longer_across(along: Axis, axis: Axis, cells: u32) -> u32
     requires { cells ≤ 8 }
-    ensures { result ≡ texts.longer_across along axis cells }
+    ensures { result ≡ places.longer_across along axis cells }
 {
     if along == axis { cells } else { cells + 1 }
 }

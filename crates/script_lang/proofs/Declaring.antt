@@ -69,7 +69,7 @@ same_sides true false h = absurd (cc)
 same_sides false true h = absurd (cc)
 same_sides false false h = refl
 
-by_axis : (sides : List SideKind) → is_periodic_kind (side_kind sides 0) ≡ is_periodic_kind (side_kind sides 1) → is_periodic_kind (side_kind sides 2) ≡ is_periodic_kind (side_kind sides 3) →
+pub by_axis : (sides : List SideKind) → is_periodic_kind (side_kind sides 0) ≡ is_periodic_kind (side_kind sides 1) → is_periodic_kind (side_kind sides 2) ≡ is_periodic_kind (side_kind sides 3) →
     is_periodic_kind (side_kind sides 4) ≡ is_periodic_kind (side_kind sides 5) → (a : Axis) → is_periodic_kind (side_kind sides (side_index a)) ≡ is_periodic_kind (side_kind sides (suc (side_index a)))
 by_axis sides x y z X = x
 by_axis sides x y z Y = y

@@ -1,7 +1,8 @@
 -- What an accepted script is, and where the first fault is.
-use Rattle.std.proofs.Common.{◌≡◌, ℕ, zero, suc, ◌+◌, ◌^◌, ◌<◌, ◌⊎◌, inl, inr, Bool, true, false, not, ◌&&◌, ◌||◌, nat_lt, if◌then◌else◌, List, [], ◌∷◌, ◌++◌, Option, Some, None, Result, Ok, Err, IfSome, IsSome, is_none, length, take, get_or, count_by, All, Bor, refl, sym, ap, subst, ◌∙◌, arith}
+use Rattle.std.proofs.Common.{replicate, ◌≡◌, ℕ, zero, suc, ◌+◌, ◌^◌, ◌<◌, ◌⊎◌, inl, inr, Bool, true, false, not, ◌&&◌, ◌||◌, nat_lt, if◌then◌else◌, List, [], ◌∷◌, ◌++◌, Option, Some, None, Result, Ok, Err, IfSome, IsSome, is_none, length, take, get_or, count_by, All, Bor, refl, sym, ap, subst, ◌∙◌, arith}
 use Rattle.std.proofs.lemmas.Bool.Decides.{nat_tests}
 use Rattle.std.specs.Option.{option_copied}
+use Rattle.amr_num.specs.declared.SideKind.TheVariants.{Periodic}
 use Rattle.mesh_model.specs.declared.language.script.Action.{Action}
 use Rattle.mesh_model.specs.declared.language.script.Declaration.{Declaration}
 use Rattle.mesh_model.specs.declared.language.script.Declared.{Declared}
@@ -17,7 +18,7 @@ use Rattle.mesh_model.specs.Language.Grammar.{Fault, Said, script_of, lines_say,
 use Rattle.mesh_model.specs.Language.Words.{word, words_of, lines_of, is_passed_over, is_line_end}
 use Rattle.script_lang.specs.Laws.{IsEndMissing, IsFirstFault}
 use Rattle.script_lang.proofs.Acting.{Has, acts_fit}
-use Rattle.script_lang.proofs.Declaring.{declares_within}
+use Rattle.script_lang.proofs.Declaring.{declares_within, by_axis}
 use Rattle.script_lang.proofs.Steps.{bound, passed, same_value}
 
 -- LINES
@@ -185,7 +186,20 @@ lines_fit (line ∷ lines) r n read h =
 starts_within : (given : Option Declared) → IfSome given InLimits → InLimits (at_start given).declared
 starts_within (Some d) within = within
 starts_within None within = record {
-  shape = record { rx = (omega arith, omega arith); ry = (omega arith, omega arith); rz = (omega arith, omega arith); n = inr refl; g = inr (inl refl); levels = (omega arith, omega arith); sides = record { six = refl; x = refl; y = refl; z = refl } };
+  shape = record {
+    rx = omega arith;
+    ry = omega arith;
+    rz = omega arith;
+    few_x = omega arith;
+    few_y = omega arith;
+    few_z = omega arith;
+    cells = inr refl;
+    guards = inr (inl refl);
+    min = omega arith;
+    max = omega arith;
+    six = refl;
+    both = by_axis (replicate 6 Periodic) refl refl refl;
+  };
   names = record { few = omega arith; cells = all_none _; face = tt; edge = tt };
   different = record { cells = λ i j d lt within. absurd (omega arith); face = tt; edge = tt; both = tt };
 }
