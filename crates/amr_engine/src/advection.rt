@@ -12,7 +12,7 @@ ghost use Rattle.mesh_model.specs.Geometry.Limits.{IsShape};
 ghost use Rattle.mesh_model.specs.Geometry.Places.{block_cells, in_block, places};
 ghost use Rattle.mesh_model.specs.Fields.RangeWalk.{cells_walked};
 ghost use Rattle.mesh_model.specs.Tree.Start.{start_grid};
-ghost use Rattle.mesh_model.specs.Run.Stops as stops;
+ghost use Rattle.mesh_model.specs.Fields.Advect as stepping;
 ghost use Rattle.std.specs.Prelude.{◌≡◌, ◌+◌, ◌*◌, ◌^◌, ◌<◌, ◌≤◌, ◌-ℤ◌, suc, unsigned_abs, [], ◌∷◌, length, map, flat_map, All};
 
 use crate::contents::{cell_in, place_of, total};
@@ -58,7 +58,7 @@ fn speeds_together(speeds: [i64; 3]) -> u64
 fn keeps_courant(shape: &Shape, speeds: [i64; 3]) -> bool
     requires level { shape.now.max ≤ 10 }
     requires speeds { AreThree (2 ^ 20) speeds }
-    ensures { result ≡ stops.keeps_courant shape.now (three speeds) }
+    ensures { result ≡ stepping.keeps_courant shape.now (three speeds) }
 {
     speeds_together(speeds) << shape.max <= 1 << 20
 }

@@ -1,4 +1,5 @@
-use Rattle.std.proofs.Common.{Some, sym, ap, subst, ◌∙◌}
+use Rattle.std.proofs.Common.{◌≡◌, Some, sym, ap, subst, ◌∙◌}
+use Rattle.mesh_model.specs.Tree.ValidGrid.{FewNodes}
 use Rattle.mesh_model.specs.declared.run.stops.Refusal.TheVariants as refusals
 use Rattle.block_tree.specs.GridOf.{grid_of}
 use Rattle.block_tree.specs.Growing.{IsGrowStop, grid_after}
@@ -15,3 +16,18 @@ returns-in-Err-Blocks c m fits =
     let new = grid_is m self.tree self.marks c.in-Ok.plan c.deref.result.now c.deref-2.result.now fits c.in-Ok.ensures.new_grid c.deref.ensures.value c.deref-2.ensures.value in
     let told = subst (IsGrowStop g) c.in-Err-Blocks.field-0-is c.in-Err-Blocks.ensures.stop in
     (too_many m g c.in-Err-Blocks.count new told ∙ ap (λ n. Some (refusals.Blocks n)) (sym c.in-Err-Blocks.count-is), fits)
+
+pub returns : goal.returns
+returns c m fits =
+    let self = c.args.self.now in
+    let g = grid_after (grid_of self.tree) c.deref.result.now c.deref-2.result.now in
+    let new = grid_is m self.tree self.marks c.in-Ok.plan c.deref.result.now c.deref-2.result.now fits c.in-Ok.ensures.new_grid c.deref.ensures.value c.deref-2.ensures.value in
+    let tree : grid_of c.in-Ok-regrown.tree ≡ g = c.in-Ok-regrown.ensures.tree in (
+      tree ∙ sym new,
+      subst FewNodes (sym new) c.in-Ok-regrown.ensures.few,
+      λ m' same none no_more. record {
+        grid = same ∙ new ∙ sym tree;
+        refine = λ b. none b ∙ sym (c.reset.ensures.none.refine b);
+        derefine = λ b. no_more b ∙ sym (c.reset.ensures.none.derefine b);
+      },
+    )
