@@ -275,7 +275,7 @@ built_names d h = (none_there d.names.face (both _ _ h).0, none_there d.names.ed
 
 pub roots_of : (d : Declared) → InLimits d → IsRoots d.shape
 roots_of d limits =
-    let n : (d.shape.n ≡ 4) ⊎ (d.shape.n ≡ 8) = limits.shape.n in
+    let n : (d.shape.n ≡ 4) ⊎ (d.shape.n ≡ 8) = limits.shape.cells in
     record {
       some_cells = elim n [ inl e ↦ omega arith | inr e ↦ omega arith ];
       few_cells = elim n [ inl e ↦ omega arith | inr e ↦ omega arith ];
