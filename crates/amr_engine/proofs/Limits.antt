@@ -13,47 +13,16 @@ use Rattle.mesh_model.specs.Tree.Start.{start_grid}
 use Rattle.mesh_model.specs.Fields.Valid.{InRange, ValidMesh}
 use Rattle.mesh_model.proofs.FieldLemmas.LeafSums.{off_leaf}
 use Rattle.mesh_model.proofs.FieldLemmas.Start.{start_mesh_valid}
+use Rattle.block_tree.proofs.Facts.{shape_out}
 use Rattle.amr_engine.specs.Contents.{IsRoots, IsUniform, KeepsLimits, cell_count, content_in, place}
 use Rattle.amr_engine.specs.UniformMesh.{uniform_mesh}
 use Rattle.amr_engine.proofs.Filled.{zero_mesh}
 
-either : (n a b : ℕ) → ((n == a) || (n == b)) ≡ true → (n ≡ a) ⊎ (n ≡ b)
-either n a b h = elim (or_cases (n == a) (n == b) h) [ inl l ↦ inl (eqb-true n a l) | inr r ↦ inr (eqb-true n b r) ]
-
-one_of_three : (n a b c : ℕ) → ((n == a) || ((n == b) || (n == c))) ≡ true → (n ≡ a) ⊎ ((n ≡ b) ⊎ (n ≡ c))
-one_of_three n a b c h = elim (or_cases (n == a) ((n == b) || (n == c)) h) [ inl l ↦ inl (eqb-true n a l) | inr r ↦ inr (either n b c r) ]
-
 pub shape_is : (d : Declared) → KeepsLimits d → IsShape d.shape
-shape_is d limits = record {
-  rx = limits.rx.0;
-  ry = limits.ry.0;
-  rz = limits.rz.0;
-  few_x = limits.rx.1;
-  few_y = limits.ry.1;
-  few_z = limits.rz.1;
-  cells = either d.shape.n 4 8 limits.cells;
-  guards = one_of_three d.shape.g 1 2 4 limits.guards;
-  min = limits.levels.0;
-  max = limits.levels.1;
-  six = limits.six;
-  both = limits.both;
-}
+shape_is d limits = shape_out limits.shape d.shape (λ shape. shape)
 
 pub limits_are : (d : Declared) → IsShape d.shape → length d.names.cells ≤ 4 → KeepsLimits d
-limits_are d shape few = record {
-  rx = (shape.rx, shape.few_x);
-  ry = (shape.ry, shape.few_y);
-  rz = (shape.rz, shape.few_z);
-  cells = elim shape.cells [ inl e ↦ or_left (d.shape.n == 4) (d.shape.n == 8) (eq-eqb d.shape.n 4 e) | inr e ↦ or_right (d.shape.n == 4) (d.shape.n == 8) (eq-eqb d.shape.n 8 e) ];
-  guards = elim shape.guards [
-    | inl e ↦ or_left (d.shape.g == 1) ((d.shape.g == 2) || (d.shape.g == 4)) (eq-eqb d.shape.g 1 e)
-    | inr more ↦ or_right (d.shape.g == 1) ((d.shape.g == 2) || (d.shape.g == 4)) (elim more [ inl e ↦ or_left (d.shape.g == 2) (d.shape.g == 4) (eq-eqb d.shape.g 2 e) | inr e ↦ or_right (d.shape.g == 2) (d.shape.g == 4) (eq-eqb d.shape.g 4 e) ])
-  ];
-  levels = (shape.min, shape.max);
-  six = shape.six;
-  both = shape.both;
-  few = few;
-}
+limits_are d shape few = record { shape = ∣ shape ∣₁; few = few }
 
 nothing_in : (s : Shape) (list : List ℤ) (c : CellAt) → list ≡ [] → on_cells (start_grid s) (content_in s list) c ≡ pos 0
 nothing_in s list c e = elim (cases_Bool (is_leaf (start_grid s) c)) [

@@ -6,6 +6,7 @@ use Rattle.amr_num.specs.declared.BlockAt.{BlockAt}
 use Rattle.amr_num.specs.declared.CellAt.{CellAt}
 use Rattle.mesh_model.specs.declared.geometry.Shape.{Shape}
 use Rattle.mesh_model.specs.declared.language.script.Declared.{Declared}
+use Rattle.mesh_model.specs.Geometry.Limits.{IsShape}
 use Rattle.mesh_model.specs.Geometry.Coordinates.{extent, roots, is_periodic_kind, side_index, side_kind}
 use Rattle.mesh_model.specs.Geometry.Places.{in_block, places}
 
@@ -59,16 +60,9 @@ pub record IsUniform (d : Declared) (contents : List (List ℤ)) (outs : List �
   pub flowed : length outs ≡ length d.names.cells
   pub whole : (v : ℕ) → v < length contents → length (slice_index_or contents v []) ≡ cell_count d.shape
 
--- the shape is one of the allowed ones and there are few variables: said by tests, so that it is one fact
+-- the shape is one of the allowed ones, said as one fact, and there are few variables
 pub record KeepsLimits (d : Declared) : Type 0 where
-  pub rx : (0 < d.shape.rx) × (d.shape.rx ≤ 8)
-  pub ry : (0 < d.shape.ry) × (d.shape.ry ≤ 8)
-  pub rz : (0 < d.shape.rz) × (d.shape.rz ≤ 8)
-  pub cells : ((d.shape.n == 4) || (d.shape.n == 8)) ≡ true
-  pub guards : ((d.shape.g == 1) || ((d.shape.g == 2) || (d.shape.g == 4))) ≡ true
-  pub levels : (d.shape.min ≤ d.shape.max) × (d.shape.max ≤ 10)
-  pub six : length d.shape.sides ≡ 6
-  pub both : (a : Axis) → is_periodic_kind (side_kind d.shape.sides (side_index a)) ≡ is_periodic_kind (side_kind d.shape.sides (suc (side_index a)))
+  pub shape : ∥ IsShape d.shape ∥₁
   pub few : length d.names.cells ≤ 4
 
 -- each of three numbers is at most this

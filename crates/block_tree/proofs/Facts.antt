@@ -40,7 +40,8 @@ sorted_out : {P : Type 0} → ∥ P ∥₁ → (bs : List BlockAt) → (P → So
 sorted_out t [] f = tt
 sorted_out t (b ∷ bs) f = (λ c i. ∥∥₁_elim t le_prop (λ p. (f p).0 c i), sorted_out t bs (λ p. (f p).1))
 
-shape_out : {P : Type 0} → ∥ P ∥₁ → (s : Shape) → (P → IsShape s) → IsShape s
+-- the shape of a truncated fact is one of the allowed ones
+pub shape_out : {P : Type 0} → ∥ P ∥₁ → (s : Shape) → (P → IsShape s) → IsShape s
 shape_out t s f = record {
   rx = ∥∥₁_elim t le_prop (λ p. (f p).rx);
   ry = ∥∥₁_elim t le_prop (λ p. (f p).ry);
