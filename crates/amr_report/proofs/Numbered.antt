@@ -15,7 +15,7 @@ use Rattle.mesh_model.specs.Tree.Order.{nodes}
 use Rattle.mesh_model.specs.Tree.Kinds.{Grid, is_leaf_block}
 use Rattle.mesh_model.specs.Tree.ValidGrid.{Valid}
 use Rattle.mesh_model.specs.Run.TreeText.{node_text, nodes_text}
-use Rattle.amr_report.specs.Nodes.{line_of, of_leaf}
+use Rattle.amr_report.specs.Nodes.{node_line, of_leaf}
 use Rattle.amr_report.proofs.Printed.{Broke, Printed, flat_next, place_broke}
 
 -- what is made of the first n items by their places
@@ -78,14 +78,14 @@ lines_taken g d bs (suc n) few =
     ∙ sym (ap (nodes_text g 0) (take-suc bs n d (omega arith)) ∙ lines_push g 0 (take n bs) (get_or bs n d))
 
 -- the lines of all nodes, by their numbers
-pub lines_by_node : (g : Grid) → flat_map (line_of g) (range_with_len 0 (length (nodes g.leaves))) ≡ nodes_text g 0 (nodes g.leaves)
-unfolding block_at line_of
+pub lines_by_node : (g : Grid) → flat_map (node_line g) (range_with_len 0 (length (nodes g.leaves))) ≡ nodes_text g 0 (nodes g.leaves)
+unfolding block_at node_line
 lines_by_node g =
     lines_taken g (record { level = 0; x = 0; y = 0; z = 0 }) (nodes g.leaves) (length (nodes g.leaves)) (omega arith)
     ∙ ap (nodes_text g 0) (take_all (length (nodes g.leaves)) (nodes g.leaves) (omega arith))
 
-pub line_broke : (g : Grid) (a b c : Option (List ℕ)) (j : ℕ) (before now after : ℕ) → j < length (nodes g.leaves) → Printed a (flat_map (line_of g) (range_with_len 0 j)) b before now → Broke b (line_of g j) c now after → Broke a (nodes_text g 0 (nodes g.leaves)) c before after
-line_broke g a b c j before now after h one two = subst (λ t. Broke a t c before after) (lines_by_node g) (place_broke a b c (line_of g) j _ before now after h one two)
+pub line_broke : (g : Grid) (a b c : Option (List ℕ)) (j : ℕ) (before now after : ℕ) → j < length (nodes g.leaves) → Printed a (flat_map (node_line g) (range_with_len 0 j)) b before now → Broke b (node_line g j) c now after → Broke a (nodes_text g 0 (nodes g.leaves)) c before after
+line_broke g a b c j before now after h one two = subst (λ t. Broke a t c before after) (lines_by_node g) (place_broke a b c (node_line g) j _ before now after h one two)
 
-pub lines_printed : (g : Grid) (a b : Option (List ℕ)) (j : ℕ) (before now : ℕ) → j ≡ length (nodes g.leaves) → Printed a (flat_map (line_of g) (range_with_len 0 j)) b before now → Printed a (nodes_text g 0 (nodes g.leaves)) b before now
-lines_printed g a b j before now all one = subst (λ t. Printed a t b before now) (ap (λ n. flat_map (line_of g) (range_with_len 0 n)) all ∙ lines_by_node g) one
+pub lines_printed : (g : Grid) (a b : Option (List ℕ)) (j : ℕ) (before now : ℕ) → j ≡ length (nodes g.leaves) → Printed a (flat_map (node_line g) (range_with_len 0 j)) b before now → Printed a (nodes_text g 0 (nodes g.leaves)) b before now
+lines_printed g a b j before now all one = subst (λ t. Printed a t b before now) (ap (λ n. flat_map (node_line g) (range_with_len 0 n)) all ∙ lines_by_node g) one

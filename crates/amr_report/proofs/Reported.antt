@@ -20,7 +20,7 @@ use Rattle.mesh_model.specs.Geometry.Blocks.{children, parent_block, is_same_blo
 use Rattle.std.specs.List.{list_any}
 use Rattle.mesh_model.specs.Tree.Reported.{all_across, number_of, parent_reported, reported, place_in, type_of}
 use Rattle.mesh_model.proofs.TreeLemmas.Tests.{refuted}
-use Rattle.amr_report.specs.Nodes.{line_of, node_begin, with_across, with_kind}
+use Rattle.amr_report.specs.Nodes.{node_line, node_begin, with_across, with_kind}
 use Rattle.amr_report.proofs.Joined.{join_words}
 
 -- ---- numbers
@@ -65,8 +65,8 @@ node_words g number b =
     ∷ codes "faces" ∷ map signed_decimal (all_across g b)
 
 -- a node's line, put together
-pub node_whole : (g : Grid) (node : ℕ) (b : BlockAt) (line : List ℕ) → b ≡ block_at g node → line ≡ with_across (with_across (with_across (with_kind (node_begin node b) (type_of g (block_at g node)) (parent_reported g (block_at g node))) g X b) g Y b) g Z b → line ++ codes "\n" ≡ line_of g node
-unfolding line_of
+pub node_whole : (g : Grid) (node : ℕ) (b : BlockAt) (line : List ℕ) → b ≡ block_at g node → line ≡ with_across (with_across (with_across (with_kind (node_begin node b) (type_of g (block_at g node)) (parent_reported g (block_at g node))) g X b) g Y b) g Z b → line ++ codes "\n" ≡ node_line g node
+unfolding node_line
 node_whole g node b line here made =
     let at : BlockAt → List ℕ = λ c. with_across (with_across (with_across (with_kind (node_begin node c) (type_of g (block_at g node)) (parent_reported g (block_at g node))) g X c) g Y c) g Z c in
     ap (λ t. t ++ codes "\n") (made ∙ (ap at here ∙ join_words (codes "node") (node_words g node (block_at g node))))

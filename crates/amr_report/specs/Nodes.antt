@@ -11,10 +11,6 @@ use Rattle.mesh_model.specs.Tree.Reported.{across, high_neighbour, low_neighbour
 use Rattle.mesh_model.specs.Run.TreeText.{node_text}
 use Rattle.amr_report.specs.Printing.{with_words}
 
--- how many nodes and leaves there are
-abbrev pub size_line : Grid → List ℕ
-size_line g = text_line (codes "mesh" ∷ codes "nodes" ∷ decimal (length (nodes g.leaves)) ∷ codes "leaves" ∷ decimal (length g.leaves) ∷ [])
-
 -- what is printed of a node's block where the node is a leaf, and nothing for any other node
 abbrev pub of_leaf : Grid → (BlockAt → List ℕ) → ℕ → List ℕ
 of_leaf g text node = if is_leaf_block g (block_at g node) then text (block_at g node) else []
@@ -32,5 +28,5 @@ abbrev pub with_across : List ℕ → Grid → Axis → BlockAt → List ℕ
 with_across line g a b = with_words line (signed_decimal (across g (low_neighbour g.shape a b)) ∷ signed_decimal (across g (high_neighbour g.shape a b)) ∷ [])
 
 -- the line of a node, by its number
-unfoldable pub line_of : Grid → ℕ → List ℕ
-line_of g node = node_text g node (block_at g node)
+unfoldable pub node_line : Grid → ℕ → List ℕ
+node_line g node = node_text g node (block_at g node)

@@ -1,11 +1,9 @@
 //! How many nodes and leaves a mesh has, and the list of its leaves.
 
-ghost use Rattle.amr_report.specs.Nodes as shown;
 ghost use Rattle.amr_report.specs.Nodes.{of_leaf};
 ghost use Rattle.amr_report.specs.Printing.{Prints};
 ghost use Rattle.block_tree.specs.GridOf.{grid_of};
 ghost use Rattle.block_tree.specs.Numbered.{IsNode};
-ghost use Rattle.mesh_model.specs.Fields.Plain.{Mesh};
 ghost use Rattle.mesh_model.specs.Run.Texts.{leaf_text, mesh_text, size_text};
 ghost use Rattle.std.specs.Prelude.{◌≡◌, flat_map};
 
@@ -15,8 +13,9 @@ use block_tree::Tree;
 use outside_io::Failed;
 use outside_io::sink::Sink;
 
+#[tactic(auto, unfolding(mesh_model::specs::Run::Texts::size_text))]
 fn size_line(tree: &Tree) -> Line
-    ensures { result ≡ shown.size_line (grid_of tree.now) }
+    ensures { result ≡ size_text (grid_of tree.now) }
 {
     let mut line = Line::begin("mesh");
     line.push_word("nodes");
@@ -29,7 +28,7 @@ fn size_line(tree: &Tree) -> Line
 
 /// Prints how many nodes and leaves the tree has.
 pub fn print_size<K: Sink>(sink: &mut K, tree: &Tree) -> Result<(), Failed>
-    ensures { (m : Mesh) → m.grid ≡ grid_of tree.now → Prints result (K.taken sink.old) (size_text m)
+    ensures { Prints result (K.taken sink.old) (size_text (grid_of tree.now))
         (K.taken sink.new) (K.faults sink.old) (K.faults sink.new) }
 {
     size_line(tree).print(sink)
@@ -73,7 +72,7 @@ fn print_leaves<K: Sink>(sink: &mut K, tree: &Tree) -> Result<(), Failed>
 
 /// Prints how many nodes and leaves the tree has, and then its leaves in Morton order.
 pub fn print_mesh<K: Sink>(sink: &mut K, tree: &Tree) -> Result<(), Failed>
-    ensures { (m : Mesh) → m.grid ≡ grid_of tree.now → Prints result (K.taken sink.old) (mesh_text m)
+    ensures { Prints result (K.taken sink.old) (mesh_text (grid_of tree.now))
         (K.taken sink.new) (K.faults sink.old) (K.faults sink.new) }
 {
     print_size(sink, tree)?;

@@ -5,7 +5,6 @@ ghost use Rattle.amr_report.specs.Nodes as shown;
 ghost use Rattle.block_tree.specs.GridOf.{grid_of};
 ghost use Rattle.block_tree.specs.Numbered.{IsNode, block_at};
 ghost use Rattle.mesh_model.specs.Tree.Order.{nodes};
-ghost use Rattle.mesh_model.specs.Fields.Plain.{Mesh};
 ghost use Rattle.mesh_model.specs.Tree.Reported as model;
 ghost use Rattle.mesh_model.specs.Run.TreeText.{nodes_text, tree_text};
 ghost use Rattle.mesh_model.specs.Geometry.Blocks.{InDomain};
@@ -106,7 +105,7 @@ fn push_kind(line: &mut Line, kind: u32, parent: i64)
 
 fn node_line(tree: &Tree, node: u32) -> Line
     requires { IsNode (grid_of tree.now) node }
-    ensures { result ≡ shown.line_of (grid_of tree.now) node }
+    ensures { result ≡ shown.node_line (grid_of tree.now) node }
 {
     let b = tree.at(node);
     let mut line = begin_node(node, b);
@@ -121,7 +120,7 @@ fn node_line(tree: &Tree, node: u32) -> Line
 /// Prints a node.
 fn print_node<K: Sink>(sink: &mut K, tree: &Tree, node: u32) -> Result<(), Failed>
     requires { IsNode (grid_of tree.now) node }
-    ensures { Prints result (K.taken sink.old) (shown.line_of (grid_of tree.now) node)
+    ensures { Prints result (K.taken sink.old) (shown.node_line (grid_of tree.now) node)
         (K.taken sink.new) (K.faults sink.old) (K.faults sink.new) }
 {
     node_line(tree, node).print(sink)
@@ -141,7 +140,7 @@ fn print_nodes<K: Sink>(sink: &mut K, tree: &Tree) -> Result<(), Failed>
 /// Prints the nodes of the tree in Morton order: of each its number, its level and place, its type, its parent, and
 /// what lies across its six sides.
 pub fn print_tree<K: Sink>(sink: &mut K, tree: &Tree) -> Result<(), Failed>
-    ensures { (m : Mesh) → m.grid ≡ grid_of tree.now → Prints result (K.taken sink.old) (tree_text m)
+    ensures { Prints result (K.taken sink.old) (tree_text (grid_of tree.now))
         (K.taken sink.new) (K.faults sink.old) (K.faults sink.new) }
 {
     print_nodes(sink, tree)

@@ -1,8 +1,8 @@
 //! Totals of cell variables, and the count of cells with a net flux.
 
 ghost use Rattle.amr_report.specs.Printing.{Prints};
-ghost use Rattle.amr_report.specs.Totals as totals;
-ghost use Rattle.std.specs.Prelude.{◌≡◌, ◌≤◌, length};
+ghost use Rattle.mesh_model.specs.Run.Texts as totals;
+ghost use Rattle.std.specs.Prelude.{◌≡◌, ◌≤◌, length, pos};
 
 use crate::line::Line;
 use outside_io::Failed;
@@ -32,7 +32,7 @@ pub fn print_total<K: Sink>(sink: &mut K, name: &str, total: i128, out: i128) ->
 
 fn netflux_line(name: &str, cells: u64) -> Line
     requires { length name.now ≤ 16 }
-    ensures { result ≡ totals.netflux_line name.now cells }
+    ensures { result ≡ totals.netflux_line name.now (pos cells) }
 {
     let mut line = Line::begin("netflux");
     line.push_word(name);
@@ -45,7 +45,7 @@ fn netflux_line(name: &str, cells: u64) -> Line
 /// Prints the number of leaf cells whose net flux is not 0. A name has at most 16 bytes.
 pub fn print_netflux<K: Sink>(sink: &mut K, name: &str, cells: u64) -> Result<(), Failed>
     requires { length name.now ≤ 16 }
-    ensures { Prints result (K.taken sink.old) (totals.netflux_line name.now cells)
+    ensures { Prints result (K.taken sink.old) (totals.netflux_line name.now (pos cells))
         (K.taken sink.new) (K.faults sink.old) (K.faults sink.new) }
 {
     netflux_line(name, cells).print(sink)

@@ -10,7 +10,7 @@ use Rattle.mesh_model.specs.declared.geometry.Shape.{Shape}
 use Rattle.mesh_model.specs.Fields.VariableNames.{VariableNames}
 use Rattle.mesh_model.specs.Geometry.Coordinates.{Inside, on, with, extent, next, sub_cell, sub_face, half_edge, parent_face, face_of, edge_of, after, face_numbers, edge_numbers, EdgeInside}
 use Rattle.mesh_model.specs.Geometry.Outside.{cell_in}
-use Rattle.mesh_model.specs.Geometry.Blocks.{child_block, LiesIn}
+use Rattle.mesh_model.specs.Geometry.Blocks.{child_block, LiesIn, as_block}
 use Rattle.mesh_model.specs.Geometry.Limits.{IsShape}
 use Rattle.mesh_model.specs.Tree.MarkedGrid.{MarkedGrid, ValidMarkedGrid}
 use Rattle.mesh_model.specs.Tree.Growth.{MayRefine, MayMerge}
@@ -34,12 +34,9 @@ use Rattle.mesh_model.specs.Fields.Balance.{Balanced}
 
 -- ---- words that the laws use
 
--- the cell d lies in the cell c
-pub record CellIn (d c : CellAt) : Type 0 where
-  pub level : c.level ≤ d.level
-  pub x : d.x / 2 ^ (d.level - c.level) ≡ c.x
-  pub y : d.y / 2 ^ (d.level - c.level) ≡ c.y
-  pub z : d.z / 2 ^ (d.level - c.level) ≡ c.z
+-- the cell d lies in the cell c, as blocks of one cell do
+abbrev pub CellIn : CellAt → CellAt → Type 0
+CellIn d c = LiesIn (as_block d) (as_block c)
 
 -- how many leaf cells there are
 abbrev pub leaf_cells : Grid → ℕ

@@ -1,6 +1,7 @@
 -- Blocks, their children and parents.
 use Rattle.std.specs.Prelude.{◌≡◌, ◌<◌, ◌≤◌, ◌^◌, ℕ, suc, ◌+◌, ◌-◌, ◌*◌, ◌/◌, ◌%◌, Bool, ◌&&◌, ◌==◌, List, [], ◌∷◌, map, ◌||◌, if◌then◌else◌, ℤ}
 use Rattle.amr_num.specs.declared.BlockAt.{BlockAt}
+use Rattle.amr_num.specs.declared.CellAt.{CellAt}
 use Rattle.mesh_model.specs.declared.geometry.Shape.{Shape}
 
 -- the block one level coarser in which a block lies
@@ -35,3 +36,7 @@ pub record InDomain (s : Shape) (b : BlockAt) : Type 0 where
   pub x : b.x < s.rx * 2 ^ b.level
   pub y : b.y < s.ry * 2 ^ b.level
   pub z : b.z < s.rz * 2 ^ b.level
+
+-- a cell as a block of one cell
+abbrev pub as_block : CellAt → BlockAt
+as_block c = record { level = c.level; x = c.x; y = c.y; z = c.z }

@@ -10,6 +10,7 @@ use Rattle.mesh_model.specs.declared.fields.values.Group.{Group}
 use Rattle.mesh_model.specs.declared.fields.values.Group.TheVariants.{Cell, Face, Edge}
 use Rattle.mesh_model.specs.Geometry.Coordinates.{face_of, edge_of}
 use Rattle.mesh_model.specs.Fields.VariableNames.{VariableNames}
+use Rattle.mesh_model.specs.Tree.Kinds.{Grid}
 use Rattle.mesh_model.specs.Fields.Plain.{Mesh}
 use Rattle.mesh_model.specs.Fields.Circulation.{net_flux}
 use Rattle.mesh_model.specs.Fields.GuardValues.{cell_guard, face_guard, edge_guard}
@@ -72,26 +73,32 @@ variable_text m (Cell v) = flat_map (cell_block_text m v) m.grid.leaves
 variable_text m Face = flat_map (λ b. flat_map (face_block_text m b) (X ∷ Y ∷ Z ∷ [])) m.grid.leaves
 variable_text m Edge = flat_map (λ b. flat_map (edge_block_text m b) (X ∷ Y ∷ Z ∷ [])) m.grid.leaves
 
--- the total of a cell variable, and what has flowed out
+-- the total of a cell variable, and what has flowed out of the domain
+abbrev pub total_line : List ℕ → ℤ → ℤ → List ℕ
+total_line name total out = text_line (codes "total" ∷ name ∷ signed_decimal total ∷ codes "out" ∷ signed_decimal out ∷ [])
+
 abbrev pub total_text : Mesh → ℕ → List ℕ
-total_text m v = text_line (codes "total" ∷ group_name m.names (Cell v) ∷ signed_decimal (total m.grid (m.cells v)) ∷ codes "out" ∷ signed_decimal (m.outs v) ∷ [])
+total_text m v = total_line (group_name m.names (Cell v)) (total m.grid (m.cells v)) (m.outs v)
 
 -- how many nodes and leaves there are
-unfoldable pub size_text : Mesh → List ℕ
-size_text m = text_line (codes "mesh" ∷ codes "nodes" ∷ decimal (length (nodes m.grid.leaves)) ∷ codes "leaves" ∷ decimal (length m.grid.leaves) ∷ [])
+unfoldable pub size_text : Grid → List ℕ
+size_text g = text_line (codes "mesh" ∷ codes "nodes" ∷ decimal (length (nodes g.leaves)) ∷ codes "leaves" ∷ decimal (length g.leaves) ∷ [])
 
 -- the same line, and the leaves
 abbrev pub leaf_text : BlockAt → List ℕ
 leaf_text b = text_line (codes "leaf" ∷ decimal b.level ∷ decimal b.x ∷ decimal b.y ∷ decimal b.z ∷ [])
 
-unfoldable pub mesh_text : Mesh → List ℕ
-mesh_text m = size_text m ++ flat_map leaf_text m.grid.leaves
+unfoldable pub mesh_text : Grid → List ℕ
+mesh_text g = size_text g ++ flat_map leaf_text g.leaves
 
 -- how many leaf cells have a net flux
+abbrev pub netflux_line : List ℕ → ℤ → List ℕ
+netflux_line name cells = text_line (codes "netflux" ∷ name ∷ codes "cells" ∷ signed_decimal cells ∷ [])
+
 unfoldable pub netflux_text : Mesh → List ℕ
 netflux_text m =
     let counted : CellAt → ℤ = λ c. if unsigned_abs (net_flux m.grid (face_view m.grid m.faces) c) == 0 then pos 0 else pos 1 in
-    text_line (codes "netflux" ∷ group_name m.names Face ∷ codes "cells" ∷ signed_decimal (leaf_sum m.grid counted) ∷ [])
+    netflux_line (group_name m.names Face) (leaf_sum m.grid counted)
 
 -- the numbers of a variable in and round a leaf
 unfoldable pub guards_text : Mesh → Group → BlockAt → List ℕ

@@ -4,7 +4,6 @@ use Rattle.std.specs.Fmt.{signed_decimal}
 use Rattle.amr_num.specs.declared.BlockAt.{BlockAt}
 use Rattle.mesh_model.specs.Tree.Order.{nodes}
 use Rattle.mesh_model.specs.Tree.Kinds.{Grid}
-use Rattle.mesh_model.specs.Fields.Plain.{Mesh}
 use Rattle.mesh_model.specs.Run.Texts.{text_line}
 use Rattle.mesh_model.specs.Tree.Reported.{all_across, parent_reported, type_of}
 
@@ -20,5 +19,5 @@ abbrev pub nodes_text : Grid → ℕ → List BlockAt → List ℕ
 nodes_text g number [] = []
 nodes_text g number (b ∷ bs) = node_text g number b ++ nodes_text g (suc number) bs
 
-unfoldable pub tree_text : Mesh → List ℕ
-tree_text m = nodes_text m.grid 0 (nodes m.grid.leaves)
+unfoldable pub tree_text : Grid → List ℕ
+tree_text g = nodes_text g 0 (nodes g.leaves)

@@ -1,5 +1,7 @@
 use Rattle.std.proofs.Common.{◌<◌, ◌^◌, Ok, length, refl, sym, ap, subst, ◌∙◌, arith, eqb-true}
 use Rattle.amr_num.proofs.Machine.{kept}
+use Rattle.mesh_model.specs.Run.Texts.{mesh_text, size_text}
+use Rattle.mesh_model.specs.Run.TreeText.{tree_text}
 use Rattle.mesh_model.specs.declared.language.script.Command.TheVariants.{Advect, FillAll, FillBox, MarkDerefine, MarkRefine, PrintMesh, PrintSize, PrintTree, PrintVar, Regrid, Total}
 use Rattle.mesh_model.specs.Language.Commands.{IsCommandOf}
 use Rattle.mesh_model.specs.Fields.Fill.{fill_all, fill_box}
@@ -89,7 +91,7 @@ returns-in-PrintSize-clause-acts g c =
     let self = c.args.self.now in
     let new = c.print_size.new in
     let w : Written = record { before = g.K.Sink.taken c.args.sink.now; after = g.K.Sink.taken new.sink; faults = g.K.Sink.faults c.args.sink.now; new_faults = g.K.Sink.faults new.sink } in
-    let printed = c.print_size.ensures (plain self) (sym c.tree.ensures) in
+    let printed = subst (λ grid. Prints c.print_size.result w.before (size_text grid) w.after w.faults w.new_faults) c.tree.ensures c.print_size.ensures in
     acts_printing c.print_size.result c.written.result (plain self) (plain self) c.args.command PrintSize w c.in-PrintSize.is refl refl refl printed c.written.ensures refl
 
 pub returns-in-PrintMesh-clause-acts : goal.returns-in-PrintMesh-clause-acts
@@ -98,7 +100,7 @@ returns-in-PrintMesh-clause-acts g c =
     let self = c.args.self.now in
     let new = c.print_mesh.new in
     let w : Written = record { before = g.K.Sink.taken c.args.sink.now; after = g.K.Sink.taken new.sink; faults = g.K.Sink.faults c.args.sink.now; new_faults = g.K.Sink.faults new.sink } in
-    let printed = c.print_mesh.ensures (plain self) (sym c.tree-in-PrintMesh.ensures) in
+    let printed = subst (λ grid. Prints c.print_mesh.result w.before (mesh_text grid) w.after w.faults w.new_faults) c.tree-in-PrintMesh.ensures c.print_mesh.ensures in
     acts_printing c.print_mesh.result c.written-in-PrintMesh.result (plain self) (plain self) c.args.command PrintMesh w c.in-PrintMesh.is refl refl refl printed c.written-in-PrintMesh.ensures refl
 
 pub returns-in-PrintTree-clause-acts : goal.returns-in-PrintTree-clause-acts
@@ -107,5 +109,5 @@ returns-in-PrintTree-clause-acts g c =
     let self = c.args.self.now in
     let new = c.print_tree.new in
     let w : Written = record { before = g.K.Sink.taken c.args.sink.now; after = g.K.Sink.taken new.sink; faults = g.K.Sink.faults c.args.sink.now; new_faults = g.K.Sink.faults new.sink } in
-    let printed = c.print_tree.ensures (plain self) (sym c.tree-in-PrintTree.ensures) in
+    let printed = subst (λ grid. Prints c.print_tree.result w.before (tree_text grid) w.after w.faults w.new_faults) c.tree-in-PrintTree.ensures c.print_tree.ensures in
     acts_printing c.print_tree.result c.written-in-PrintTree.result (plain self) (plain self) c.args.command PrintTree w c.in-PrintTree.is refl refl refl printed c.written-in-PrintTree.ensures refl
