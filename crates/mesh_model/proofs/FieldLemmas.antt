@@ -44,3 +44,6 @@ pub mod Nodes
 pub mod WalkExamples
 pub mod AdvectStops
 pub mod Walking
+pub mod BlockPlaces
+pub mod BlockArrays
+pub mod BlockOctants

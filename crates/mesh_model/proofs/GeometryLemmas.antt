@@ -1,2 +1,3 @@
 pub mod ShapeLimits
 pub mod Ends
+pub mod Halves

@@ -1,0 +1,5 @@
+pub mod Knowing
+pub mod Slots
+pub mod Starting
+pub mod RankLends
+pub mod WorldLends
