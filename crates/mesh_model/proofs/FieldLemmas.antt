@@ -39,3 +39,6 @@ pub mod Donors
 pub mod WalkExamples
 pub mod AdvectStops
 pub mod Walking
+pub mod BlockPlaces
+pub mod BlockArrays
+pub mod BlockOctants

@@ -1,3 +1,4 @@
 pub mod ShapeLimits
 pub mod Ends
 pub mod OnAxes
+pub mod Halves

@@ -1,0 +1,6 @@
+pub mod Held
+pub mod Lending
+pub mod Making
+pub mod Pools
+pub mod PoolLends
+pub mod Views

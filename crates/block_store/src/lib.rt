@@ -1,0 +1,21 @@
+//! The arrays of blocks in memory: a pool that lends them by slots, and views of them by block indices.
+//!
+//! An array has a block's places with its guard cells, x fastest, then y, then z. Along each axis it has `N + 2 G`
+//! places, an array on faces one more along its axis, and one on edges one more along the other two.
+#![tactic(auto)]
+
+mod cells;
+mod layout;
+mod making;
+mod places;
+mod pool;
+mod store;
+
+pub use cells::Cells;
+pub use layout::Layout;
+pub use places::{Extents, cell_row, number_of, place};
+pub use pool::Pool;
+pub use store::Beside;
+
+#[cfg(test)]
+mod tests;

@@ -1,0 +1,139 @@
+//! Places of arrays.
+
+ghost use Rattle.mesh_model.specs.Fields.ArrayPlaces as places;
+ghost use Rattle.mesh_model.specs.Fields.ArrayPlaces.{AreIndices, IsIndex, IsSize, size_of};
+ghost use Rattle.std.specs.Prelude.{◌≡◌, ◌+◌, ◌*◌, ◌<◌, ◌≤◌, length, pos, ℕ};
+
+use amr_num::Axis;
+use mesh_model::Var;
+use std::marker::Model;
+
+/// How many places an array has along each axis.
+#[derive(Clone, Copy, Debug, PartialEq, Eq)]
+pub struct Extents {
+    /// Along x.
+    pub x: usize,
+    /// Along y.
+    pub y: usize,
+    /// Along z.
+    pub z: usize,
+}
+
+impl Model for Extents {
+    ghost use Rattle.mesh_model.specs.Fields.ArrayPlaces.{Extents as PlainExtents};
+
+    ghost Value = { PlainExtents };
+
+    ghost view = { λ e. record { x = e.x; y = e.y; z = e.z } };
+
+    ghost inverse = { λ e. record { x = e.x; y = e.y; z = e.z } };
+}
+
+impl Extents {
+    ghost use Rattle.mesh_model.specs.Fields.ArrayPlaces as places;
+    ghost use Rattle.mesh_model.specs.Fields.ArrayPlaces.{IsSize};
+    ghost use Rattle.std.specs.Prelude.{◌≡◌, ◌≤◌};
+
+    /// The extents of a variable's array in blocks of `n` cells along each axis with `g` guard cells on each side.
+    pub fn of(n: usize, g: usize, var: Var) -> Extents
+        requires { IsSize n g }
+        ensures { result ≡ places.extents_of n g var }
+    {
+        match var {
+            Var::Cell(_) => Extents::of_cells(n, g),
+            Var::CellWork => Extents::of_cells(n, g),
+            Var::Face(axis) => Extents::of_faces(n, g, axis),
+            Var::FaceWork(axis) => Extents::of_faces(n, g, axis),
+            Var::Edge(axis) => Extents::of_edges(n, g, axis),
+            Var::EdgeWork(axis) => Extents::of_edges(n, g, axis),
+        }
+    }
+
+    /// Those of an array of cells.
+    pub fn of_cells(n: usize, g: usize) -> Extents
+        requires { IsSize n g }
+        ensures { result ≡ places.cell_extents n g }
+    {
+        let side = n + 2 * g;
+        Extents {
+            x: side,
+            y: side,
+            z: side,
+        }
+    }
+
+    /// Those of an array of the faces normal to an axis.
+    fn of_faces(n: usize, g: usize, axis: Axis) -> Extents
+        requires { IsSize n g }
+        ensures { result ≡ places.face_extents n g axis }
+    {
+        let side = n + 2 * g;
+        let x = if axis == Axis::X { side + 1 } else { side };
+        let y = if axis == Axis::Y { side + 1 } else { side };
+        let z = if axis == Axis::Z { side + 1 } else { side };
+        Extents { x, y, z }
+    }
+
+    /// Those of an array of the edges along an axis.
+    fn of_edges(n: usize, g: usize, axis: Axis) -> Extents
+        requires { IsSize n g }
+        ensures { result ≡ places.edge_extents n g axis }
+    {
+        let side = n + 2 * g;
+        let x = if axis == Axis::X { side } else { side + 1 };
+        let y = if axis == Axis::Y { side } else { side + 1 };
+        let z = if axis == Axis::Z { side } else { side + 1 };
+        Extents { x, y, z }
+    }
+}
+
+/// Where the place (i, j, k) stands in the list of an array.
+#[inline]
+pub fn place(extents: Extents, i: usize, j: usize, k: usize) -> usize
+    requires small { (extents.x ≤ 17) × (extents.y ≤ 17) × (extents.z ≤ 17) }
+    requires inside { (i < extents.x) × (j < extents.y) × (k < extents.z) }
+    ensures value { result ≡ places.place_in extents i j k }
+    ensures inside { result < size_of extents }
+{
+    i + extents.x * (j + extents.y * k)
+}
+
+/// The place of a block index, which is below 0 in the guard cells before the block's first cell.
+#[inline]
+fn place_of(g: usize, i: i64, many: usize) -> usize
+    requires small { (g ≤ 4) × (many ≤ 17) }
+    requires index { IsIndex g many i }
+    ensures value { result ≡ places.place_of g i }
+    ensures inside { result < many }
+{
+    (i + g as i64) as usize
+}
+
+/// The number of an array at block indices.
+pub fn number_of(g: usize, extents: Extents, values: &[i64], i: i64, j: i64, k: i64) -> i64
+    requires guards { g ≤ 4 }
+    requires small { (extents.x ≤ 17) × (extents.y ≤ 17) × (extents.z ≤ 17) }
+    requires whole { length values.now ≡ size_of extents }
+    requires indices { AreIndices g extents i j k }
+    ensures { result ≡ places.number_of g extents values.now i j k }
+{
+    let x = place_of(g, i, extents.x);
+    let y = place_of(g, j, extents.y);
+    let z = place_of(g, k, extents.z);
+    values[place(extents, x, y, z)]
+}
+
+/// A row of a block's cells, without guard cells: those with the coordinates j on y and k on z in the block.
+#[inline]
+pub fn cell_row<'a>(n: usize, g: usize, values: &'a [i64], j: usize, k: usize) -> &'a [i64]
+    requires size { IsSize n g }
+    requires whole { length values.now ≡ size_of (places.cell_extents n g) }
+    requires inside { (j < n) × (k < n) }
+    ensures size { length result.now ≡ n }
+    ensures cells { (i : ℕ) → i < n → at result.now i ≡ places.number_at (places.cell_extents n g) values.now (g + i) (g + j) (g + k) }
+{
+    let start = place(Extents::of_cells(n, g), g, g + j, g + k);
+    &values[start..start + n]
+}
+
+ghost use Rattle.amr_num.specs.Numbers.{at};

@@ -1,0 +1,7 @@
+//! Coarser blocks split into finer ones.
+#![tactic(auto)]
+
+mod cells;
+pub mod laws;
+
+pub use cells::split_cells;
