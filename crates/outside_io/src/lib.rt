@@ -3,6 +3,8 @@
 
 mod calls;
 pub mod disk;
+#[cfg(test)]
+mod edge_tests;
 mod faults;
 pub mod folder_disk;
 pub mod memory_disk;
