@@ -1,8 +1,7 @@
 -- How great the view of a split cell can be.
-use Rattle.std.proofs.Common.{◌≡◌, ℕ, zero, suc, ◌+◌, ◌-◌, ◌*◌, ◌/◌, ◌^◌, ◌<◌, ◌≤◌, ◌⊎◌, true, false, min, max, nat_lt, if◌then◌else◌, ℤ, ◌+ℤ◌, refl, sym, ap, ◌∙◌, arith, inl, inr, subst, List, [], ◌∷◌, length, Option, Some, None}
+use Rattle.std.proofs.Common.{◌≡◌, ℕ, zero, suc, ◌+◌, ◌-◌, ◌*◌, ◌/◌, ◌^◌, ◌<◌, ◌≤◌, ◌⊎◌, true, false, min, max, nat_lt, if◌then◌else◌, ℤ, refl, sym, ap, ◌∙◌, arith, inl, inr, subst, List, [], ◌∷◌, length, Option, Some, None}
 use Rattle.std.proofs.Math.Nat.{mul-le-mul_right, mul-le-mul_left, lt-div-mul-add, div-mul-le_self}
 use Rattle.std.proofs.lemmas.Nat.{mul-le}
-use Rattle.std.proofs.lemmas.Int.{ints}
 use Rattle.std.proofs.lemmas.Bool.{cases_Bool, cases_lt, lt-ltb, le-ltb}
 use Rattle.amr_num.proofs.Sizes.{within_add}
 use Rattle.amr_num.specs.declared.BlockAt.{BlockAt}

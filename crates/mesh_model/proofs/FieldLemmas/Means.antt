@@ -1,5 +1,5 @@
 -- In a valid mesh the last rules for faces and edges speak of views.
-use Rattle.std.proofs.Common.{◌≡◌, ℕ, suc, ◌-◌, ◌*◌, ◌%◌, ◌<◌, ◌≤◌, Bool, true, false, ◌&&◌, ◌||◌, ◌==◌, not, ℤ, refl, sym, ap, ap₂, ◌∙◌, arith, inl, inr, subst, Some, List, [], ◌∷◌, map, length, ◌++◌, ◌⊎◌, eq-eqb}
+use Rattle.std.proofs.Common.{◌≡◌, ℕ, suc, ◌-◌, ◌*◌, ◌%◌, ◌<◌, ◌≤◌, Bool, false, ◌&&◌, ◌==◌, ℤ, refl, sym, ap, ap₂, ◌∙◌, arith, inl, inr, subst, Some, List, [], ◌∷◌, map, length, ◌++◌, ◌⊎◌, eq-eqb}
 use Rattle.std.specs.Prelude.{flat_map}
 use Rattle.std.proofs.lemmas.Bool.{cases_Bool, cases_lt}
 use Rattle.amr_num.specs.declared.Axis.{Axis}
@@ -8,17 +8,15 @@ use Rattle.amr_num.specs.declared.CellAt.{CellAt}
 use Rattle.amr_num.specs.declared.FaceAt.{FaceAt}
 use Rattle.amr_num.specs.declared.EdgeAt.{EdgeAt}
 use Rattle.amr_num.specs.Numbers.{floor_div}
-use Rattle.mesh_model.specs.Geometry.Coordinates.{parent_cell, parent_face, edge_of, edge_numbers, face_numbers, after, wrapped, with, on, next, extent, is_periodic, low_cell, high_cell, Inside, EdgeInside}
-use Rattle.mesh_model.specs.Tree.Kinds.{Grid, block_of, holds, is_leaf, is_split, is_leaf_block, is_split_edge, is_leaf_edge, is_split_face, is_leaf_face}
+use Rattle.mesh_model.specs.Geometry.Coordinates.{parent_face, edge_of, edge_numbers, face_numbers, after, wrapped, with, on, next, extent, is_periodic, high_cell, Inside, EdgeInside}
+use Rattle.mesh_model.specs.Tree.Kinds.{Grid, is_split_edge, is_leaf_edge, is_split_face, is_leaf_face}
 use Rattle.mesh_model.specs.Tree.ValidGrid.{Valid}
 use Rattle.mesh_model.specs.Fields.Views.{is_even, evens, even_round, sum_of, outer_edge_view, edge_view_at, is_even_edge, edge_view, outer_face_view, face_view_at, face_view, sides_of, inner_face}
 use Rattle.mesh_model.proofs.FieldLemmas.Beside.{with_level, own, above_in}
 use Rattle.mesh_model.proofs.GeometryLemmas.OnAxes.{with_own}
 use Rattle.mesh_model.proofs.FieldLemmas.CellKinds.{wide_of}
-use Rattle.mesh_model.proofs.TreeLemmas.Tests.{refuted, both_false, or_right}
-use Rattle.mesh_model.proofs.TreeLemmas.Tiling.{child_of_split}
 use Rattle.mesh_model.proofs.FieldLemmas.Slots.{extent_double}
-use Rattle.mesh_model.proofs.FieldLemmas.Round.{Beside, across, across_level, shifted_first, shifted_second, parent_block_of}
+use Rattle.mesh_model.proofs.FieldLemmas.Round.{Beside, across, across_level, shifted_first, shifted_second}
 use Rattle.mesh_model.proofs.FieldLemmas.ValidGrid.{tree}
 use Rattle.mesh_model.proofs.FieldLemmas.Inside.{not_even, at_odd, same_sides}
 use Rattle.mesh_model.proofs.FieldLemmas.EdgeSums as edges

@@ -1,5 +1,5 @@
 -- The edges at even positions beside an edge that is no leaf edge and not split are not split.
-use Rattle.std.proofs.Common.{◌≡◌, ℕ, suc, ◌-◌, ◌/◌, ◌%◌, ◌<◌, ◌≤◌, ◌⊎◌, Bool, true, false, ◌&&◌, not, refl, sym, ap, ap₂, ◌∙◌, arith, inl, inr, subst, Option, Some, None, mul_comm}
+use Rattle.std.proofs.Common.{◌≡◌, ℕ, suc, ◌-◌, ◌/◌, ◌%◌, ◌<◌, ◌≤◌, ◌⊎◌, Bool, true, false, ◌&&◌, not, refl, sym, ap, ap₂, ◌∙◌, arith, inl, inr, Some, None, mul_comm}
 use Rattle.std.proofs.Math.Nat.{div-div-eq-div-mul}
 use Rattle.std.proofs.lemmas.Bool.{cases_lt, le-ltb}
 use Rattle.std.specs.List.{list_any}
@@ -9,14 +9,12 @@ use Rattle.amr_num.specs.declared.CellAt.{CellAt}
 use Rattle.amr_num.specs.declared.EdgeAt.{EdgeAt}
 use Rattle.mesh_model.specs.declared.geometry.Shape.{Shape}
 use Rattle.mesh_model.specs.Geometry.Coordinates.{parent_cell, edge_of, edge_numbers, below, above, wrapped, moved_twice, round_edge, with, on, next, extent, is_periodic, Inside, EdgeInside}
-use Rattle.mesh_model.specs.Tree.Kinds.{Grid, block_of, is_leaf, is_split, is_leaf_block, is_split_block, holds, is_split_edge, is_leaf_edge}
+use Rattle.mesh_model.specs.Tree.Kinds.{Grid, block_of, is_leaf, holds, is_split_edge, is_leaf_edge}
 use Rattle.mesh_model.specs.Tree.ValidGrid.{Valid}
-use Rattle.mesh_model.proofs.FieldLemmas.Slots.{four_fail, four_failed, extent_double}
-use Rattle.mesh_model.proofs.FieldLemmas.CellKinds.{wide_of}
+use Rattle.mesh_model.proofs.FieldLemmas.Slots.{four_fail, extent_double}
 use Rattle.mesh_model.proofs.TreeLemmas.Tests.{refuted}
-use Rattle.mesh_model.proofs.TreeLemmas.Tiling.{IsChild, child_of_split}
-use Rattle.mesh_model.proofs.TreeLemmas.Touching.{Meet}
-use Rattle.mesh_model.proofs.FieldLemmas.Beside.{Close, Near, Follows, below_follows, after_follows, before_after, above_in, above_out, close_same, calm_cell, three}
+use Rattle.mesh_model.proofs.TreeLemmas.Tiling.{IsChild}
+use Rattle.mesh_model.proofs.FieldLemmas.Beside.{above_in, above_out, three}
 
 -- ---- the cells beside a position
 

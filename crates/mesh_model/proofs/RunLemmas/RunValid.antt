@@ -19,7 +19,7 @@ use Rattle.mesh_model.specs.declared.run.stops.Refusal.TheVariants as refusals
 use Rattle.mesh_model.specs.Fields.Advect.{Speeds, advect, three}
 use Rattle.mesh_model.specs.Fields.Circulation.{circulation}
 use Rattle.mesh_model.specs.Language.Commands.{IsCommandOf, IsLeafNumber}
-use Rattle.mesh_model.specs.Geometry.Coordinates.{axis_index, edge_numbers, edge_of, extent, face_numbers, face_of, is_periodic, next, on, with, wrapped, is_same_cell, is_same_edge, is_same_face}
+use Rattle.mesh_model.specs.Geometry.Coordinates.{axis_index, edge_numbers, edge_of, extent, face_numbers, face_of, is_periodic, next, on, wrapped, is_same_cell, is_same_edge, is_same_face}
 use Rattle.mesh_model.specs.Fields.Fill.{is_in_box, with_cells}
 use Rattle.mesh_model.specs.Fields.Induct.{with_faces}
 use Rattle.mesh_model.specs.Geometry.Limits.{IsShape}

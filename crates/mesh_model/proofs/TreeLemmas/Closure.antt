@@ -2,7 +2,7 @@
 use Rattle.std.proofs.Common.{◌≡◌, ℕ, zero, suc, ◌+◌, ◌-◌, ◌*◌, ◌/◌, ◌%◌, ◌<◌, ◌≤◌, Bool, true, false, ◌&&◌, ◌==◌, not, nat_lt, refl, ap, ◌∙◌, arith, inl, inr, subst, eq-eqb, eqb-true, lt-ltb, ltb-true}
 use Rattle.std.specs.List.{list_any, list_all}
 use Rattle.amr_num.specs.declared.BlockAt.{BlockAt}
-use Rattle.mesh_model.specs.Tree.MarkedGrid.{MarkedGrid, ValidMarkedGrid}
+use Rattle.mesh_model.specs.Tree.MarkedGrid.{MarkedGrid}
 use Rattle.mesh_model.specs.Tree.Kinds.{is_leaf_block}
 use Rattle.mesh_model.specs.Geometry.Blocks.{child_block, parent_block, children}
 use Rattle.mesh_model.specs.Tree.Closure.{refined, is_refined, is_ready, is_blocked, merged, is_merged}

@@ -2,7 +2,7 @@
 --
 -- Speeds count in 2^-20 of the coarsest cell a step. The flux through a leaf face is what its speed carries of the donor's view.
 -- A leaf cell loses high minus low of its fluxes, where a face with a split side has the sum of its subfaces' fluxes.
-use Rattle.std.specs.Prelude.{nat_le, ℕ, zero, suc, ◌+◌, ◌-◌, ◌*◌, ◌^◌, Bool, true, false, not, ◌&&◌, ◌||◌, ◌==◌, nat_lt, if◌then◌else◌, ℤ, pos, negsuc, ◌+ℤ◌, ◌-ℤ◌, ◌≤◌, unsigned_abs, List, slice_index_or}
+use Rattle.std.specs.Prelude.{nat_le, ℕ, zero, suc, ◌+◌, ◌-◌, ◌*◌, ◌^◌, Bool, true, false, not, ◌&&◌, ◌||◌, ◌==◌, nat_lt, if◌then◌else◌, ℤ, pos, negsuc, ◌+ℤ◌, ◌-ℤ◌, unsigned_abs, List, slice_index_or}
 use Rattle.amr_num.specs.declared.Axis.{Axis}
 use Rattle.amr_num.specs.declared.SideKind.{SideKind}
 use Rattle.amr_num.specs.declared.CellAt.{CellAt}

@@ -1,5 +1,5 @@
 -- The laws of valid meshes.
-use Rattle.std.specs.Prelude.{◌≡◌, ℕ, suc, ◌-◌, ◌*◌, ◌/◌, ◌%◌, ◌^◌, ◌<◌, ◌≤◌, ◌↔◌, Bool, true, false, ◌&&◌, ℤ, pos, negsuc, ◌+ℤ◌, ◌-ℤ◌, ◌≤ℤ◌, length, map, IsSome, None}
+use Rattle.std.specs.Prelude.{◌≡◌, ℕ, suc, ◌*◌, ◌%◌, ◌^◌, ◌<◌, ◌≤◌, ◌↔◌, Bool, true, false, ◌&&◌, ℤ, pos, negsuc, ◌+ℤ◌, ◌-ℤ◌, ◌≤ℤ◌, length, map, IsSome, None}
 use Rattle.amr_num.specs.declared.Axis.{Axis}
 use Rattle.amr_num.specs.declared.BlockAt.{BlockAt}
 use Rattle.amr_num.specs.declared.CellAt.{CellAt}
@@ -10,7 +10,7 @@ use Rattle.mesh_model.specs.declared.geometry.Shape.{Shape}
 use Rattle.mesh_model.specs.Fields.VariableNames.{VariableNames}
 use Rattle.mesh_model.specs.Geometry.Coordinates.{Inside, on, with, extent, next, sub_cell, sub_face, half_edge, parent_face, face_of, edge_of, after, face_numbers, edge_numbers, EdgeInside}
 use Rattle.mesh_model.specs.Geometry.Outside.{cell_in}
-use Rattle.mesh_model.specs.Geometry.Blocks.{child_block, LiesIn, as_block}
+use Rattle.mesh_model.specs.Geometry.Blocks.{LiesIn, as_block}
 use Rattle.mesh_model.specs.Geometry.Limits.{IsShape}
 use Rattle.mesh_model.specs.Tree.MarkedGrid.{MarkedGrid, ValidMarkedGrid}
 use Rattle.mesh_model.specs.Tree.Growth.{MayRefine, MayMerge}
@@ -20,11 +20,11 @@ use Rattle.mesh_model.specs.Fields.InnerRule.{Outer, octant_out, cell_out}
 use Rattle.mesh_model.specs.Fields.Circulation.{circulation, net_flux}
 use Rattle.mesh_model.specs.Fields.Views.{cell_view, face_view, edge_view, sides_of, inner_face, is_even, even_round, sum_of}
 use Rattle.mesh_model.specs.Tree.Order.{Sorted, nodes, IsIn}
-use Rattle.mesh_model.specs.Tree.ValidGrid.{LevelRule, Valid, FewNodes}
+use Rattle.mesh_model.specs.Tree.ValidGrid.{Valid, FewNodes}
 use Rattle.mesh_model.specs.Fields.Valid.{ValidMesh, OnLeaves, OfDeclared, InRange}
 use Rattle.mesh_model.specs.Fields.Totals.{level_sum, leaf_sum, total}
 use Rattle.mesh_model.specs.Tree.Closure.{is_refined, is_merged}
-use Rattle.mesh_model.specs.Tree.Regrown.{regrown, new_grid}
+use Rattle.mesh_model.specs.Tree.Regrown.{new_grid}
 use Rattle.mesh_model.specs.Fields.Regrid.{regrid}
 use Rattle.mesh_model.specs.Fields.Advect.{Speeds, keeps_courant, blown_from, flux, on_outer, outflow, advect}
 use Rattle.mesh_model.specs.Fields.Induct.{with_faces, less_circulation, induct, curl, uniform}

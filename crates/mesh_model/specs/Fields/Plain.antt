@@ -1,11 +1,10 @@
 -- The plain mesh: its leaves, and the numbers on leaf cells, leaf faces and leaf edges.
-use Rattle.std.specs.Prelude.{ℕ, ◌-◌, ◌/◌, ◌^◌, Bool, ◌&&◌, ◌||◌, ◌==◌, ℤ, pos, if◌then◌else◌}
+use Rattle.std.specs.Prelude.{ℕ, Bool, ◌&&◌, ℤ, pos, if◌then◌else◌}
 use Rattle.amr_num.specs.declared.BlockAt.{BlockAt}
 use Rattle.amr_num.specs.declared.CellAt.{CellAt}
 use Rattle.amr_num.specs.declared.FaceAt.{FaceAt}
 use Rattle.amr_num.specs.declared.EdgeAt.{EdgeAt}
 use Rattle.mesh_model.specs.Fields.VariableNames.{VariableNames}
-use Rattle.mesh_model.specs.Geometry.Coordinates.{on}
 use Rattle.mesh_model.specs.Tree.MarkedGrid.{MarkedGrid}
 use Rattle.mesh_model.specs.Tree.Kinds.{Grid, is_leaf, is_leaf_edge, is_leaf_face}
 use Rattle.mesh_model.specs.Geometry.Canonical.{is_canonical, is_canonical_edge}

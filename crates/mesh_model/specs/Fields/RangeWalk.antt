@@ -1,5 +1,5 @@
 -- The walk over all stored numbers, in which the first one out of range is reported.
-use Rattle.std.specs.Prelude.{ℕ, ◌+◌, ◌*◌, ◌^◌, Bool, ◌&&◌, nat_lt, if◌then◌else◌, ℤ, unsigned_abs, List, [], ◌∷◌, map, flat_map, length, Option, Some, None, find}
+use Rattle.std.specs.Prelude.{ℕ, Bool, ◌&&◌, nat_lt, if◌then◌else◌, ℤ, unsigned_abs, List, [], ◌∷◌, map, flat_map, length, Option, Some, None, find}
 use Rattle.std.specs.Option.{option_or, option_map}
 use Rattle.std.specs.List.{range_with_len}
 use Rattle.amr_num.specs.Numbers.{number_range, outflow_range}

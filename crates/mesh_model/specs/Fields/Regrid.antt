@@ -1,5 +1,5 @@
 -- What regrid makes of a mesh.
-use Rattle.std.specs.Prelude.{false, ◌&&◌, if◌then◌else◌, [], ◌∷◌}
+use Rattle.std.specs.Prelude.{false}
 use Rattle.mesh_model.specs.Fields.Plain.{Mesh, marked, on_cells, on_faces, on_edges}
 use Rattle.mesh_model.specs.Fields.Views.{cell_view, face_view, edge_view}
 use Rattle.mesh_model.specs.Tree.Regrown.{new_grid}

@@ -1,5 +1,5 @@
 -- The start mesh: all roots are leaves, in Morton order, all numbers are 0 and no mark stands.
-use Rattle.std.specs.Prelude.{ℕ, ◌+◌, ◌*◌, ◌/◌, ◌%◌, false, ◌&&◌, if◌then◌else◌, [], ◌∷◌, pos}
+use Rattle.std.specs.Prelude.{false, pos}
 use Rattle.mesh_model.specs.declared.geometry.Shape.{Shape}
 use Rattle.mesh_model.specs.Fields.Plain.{Mesh}
 use Rattle.mesh_model.specs.Fields.VariableNames.{VariableNames}

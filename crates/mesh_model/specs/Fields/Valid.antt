@@ -1,6 +1,5 @@
 -- When a mesh is valid.
-use Rattle.std.specs.Prelude.{◌≡◌, ℕ, true, false, ◌&&◌, ◌-◌, ◌*◌, ◌/◌, ◌^◌, ◌<◌, ◌≤◌, pos, length, None}
-use Rattle.amr_num.specs.declared.BlockAt.{BlockAt}
+use Rattle.std.specs.Prelude.{◌≡◌, ℕ, false, ◌&&◌, ◌≤◌, pos, length, None}
 use Rattle.amr_num.specs.declared.CellAt.{CellAt}
 use Rattle.amr_num.specs.declared.FaceAt.{FaceAt}
 use Rattle.amr_num.specs.declared.EdgeAt.{EdgeAt}
@@ -10,7 +9,7 @@ use Rattle.mesh_model.specs.Fields.Plain.{Mesh, marked}
 use Rattle.mesh_model.specs.Tree.MarkedGrid.{MarksFit, ValidMarkedGrid}
 use Rattle.mesh_model.specs.Geometry.Canonical.{is_canonical, is_canonical_edge}
 pub use Rattle.mesh_model.specs.Tree.Order.{IsIn}
-use Rattle.mesh_model.specs.Tree.Order.{Sorted, nodes}
+use Rattle.mesh_model.specs.Tree.Order.{Sorted}
 use Rattle.mesh_model.specs.Tree.ValidGrid.{FewNodes, Valid}
 
 -- numbers stand on leaf cells, canonical leaf faces and canonical leaf edges, and are 0 elsewhere

@@ -1,5 +1,5 @@
 -- The canonical names of faces and edges: on a periodic axis the position at the far end is position 0.
-use Rattle.std.specs.Prelude.{ℕ, ◌-◌, ◌/◌, ◌^◌, Bool, not, ◌&&◌, ◌||◌, ◌==◌, nat_lt, ℤ, if◌then◌else◌, ◌+◌, ◌*◌, [], ◌∷◌, ◌++◌, ◌-ℤ◌}
+use Rattle.std.specs.Prelude.{ℕ, Bool, not, ◌&&◌, ◌||◌, nat_lt}
 use Rattle.amr_num.specs.declared.Axis.{Axis}
 use Rattle.amr_num.specs.declared.CellAt.{CellAt}
 use Rattle.amr_num.specs.declared.FaceAt.{FaceAt}

@@ -3,7 +3,7 @@
 -- A cell is a level and three coordinates. A face is the axis that it is normal to, its position on that axis and cell coordinates on the
 -- other two. An edge is the axis that it lies along, its cell coordinate on that axis and positions on the other two. A position runs
 -- from 0 to the extent; on a periodic axis the extent is position 0 again.
-use Rattle.std.specs.Prelude.{slice_index_or, ◌<◌, ℕ, zero, suc, ◌+◌, ◌-◌, ◌*◌, ◌/◌, ◌%◌, ◌^◌, Bool, true, false, ◌&&◌, ◌==◌, nat_lt, if◌then◌else◌, List, [], ◌∷◌, Option, Some, None, ◌||◌, ℤ, ◌≡◌, ◌≤◌, ◌↔◌, ◌+ℤ◌, ◌-ℤ◌, ◌≤ℤ◌, ◌≢◌, ◌⊎◌}
+use Rattle.std.specs.Prelude.{slice_index_or, ◌<◌, ℕ, zero, suc, ◌+◌, ◌-◌, ◌*◌, ◌/◌, ◌%◌, ◌^◌, Bool, true, false, ◌&&◌, ◌==◌, nat_lt, if◌then◌else◌, List, [], ◌∷◌, Option, Some, None, ◌≤◌}
 use Rattle.amr_num.specs.declared.Axis.{Axis}
 use Rattle.amr_num.specs.declared.Axis.TheVariants.{X, Y, Z}
 use Rattle.amr_num.specs.declared.SideKind.{SideKind}

@@ -1,5 +1,5 @@
 -- The places of a block: its cells, its faces and its edges, x fastest, then y, then z.
-use Rattle.std.specs.Prelude.{ℕ, suc, ◌+◌, ◌*◌, ◌^◌, ◌&&◌, if◌then◌else◌, ℤ, List, [], ◌∷◌, map, flat_map, ◌==◌, ◌++◌, pos, ◌-ℤ◌}
+use Rattle.std.specs.Prelude.{ℕ, suc, ◌+◌, ◌*◌, ℤ, List, map, flat_map, pos, ◌-ℤ◌}
 use Rattle.std.specs.List.{range_with_len}
 use Rattle.amr_num.specs.declared.Axis.{Axis}
 use Rattle.amr_num.specs.declared.Axis.TheVariants.{X, Y, Z}

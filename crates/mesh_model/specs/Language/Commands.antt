@@ -1,5 +1,5 @@
 -- Which numbers the commands and declarations of an accepted script have, and the script as plain data.
-use Rattle.std.specs.Prelude.{◌≡◌, ℕ, ◌<◌, ◌≤◌, ◌≢◌, ◌^◌, ◌⊎◌, true, List, ℤ, length, IfSome, slice_index, slice_index_or, All, AllPairs, IsSome}
+use Rattle.std.specs.Prelude.{◌≡◌, ℕ, ◌<◌, ◌≤◌, ◌≢◌, ◌^◌, true, List, ℤ, length, IfSome, slice_index, All, AllPairs, IsSome}
 use Rattle.amr_num.specs.Numbers.{Within, finest_level, number_range}
 use Rattle.amr_num.specs.declared.Axis.{Axis}
 use Rattle.amr_num.specs.declared.BlockAt.{BlockAt}
@@ -12,7 +12,7 @@ use Rattle.mesh_model.specs.declared.fields.values.Group.TheVariants.{Cell, Face
 use Rattle.mesh_model.specs.declared.language.script.Line.{Line}
 use Rattle.mesh_model.specs.declared.language.script.Script.{Script}
 use Rattle.mesh_model.specs.Geometry.Limits.{IsShape}
-use Rattle.mesh_model.specs.Geometry.Coordinates.{extent, is_periodic_kind, axis_index}
+use Rattle.mesh_model.specs.Geometry.Coordinates.{extent, axis_index}
 use Rattle.mesh_model.specs.Fields.VariableNames.{VariableNames, most_cell_variables}
 use Rattle.mesh_model.specs.Language.Words.{is_name}
 

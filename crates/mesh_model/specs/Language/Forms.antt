@@ -1,5 +1,5 @@
 -- The words of a command by their kinds: numbers, fixed words, sides, axes, variables and new names.
-use Rattle.std.specs.Prelude.{ℕ, ◌+◌, ◌^◌, Bool, false, not, ◌&&◌, ◌||◌, ◌==◌, nat_le, if◌then◌else◌, List, [], ◌∷◌, Option, Some, None, Result, Ok, Err, ℤ, pos, unsigned_abs, int_le, codes, bytes_eq, is_some, position}
+use Rattle.std.specs.Prelude.{ℕ, ◌+◌, Bool, false, not, ◌&&◌, ◌||◌, ◌==◌, nat_le, if◌then◌else◌, List, [], ◌∷◌, Option, Some, None, Result, Ok, Err, ℤ, pos, unsigned_abs, int_le, codes, bytes_eq, is_some, position}
 use Rattle.std.specs.List.{list_any}
 use Rattle.amr_num.specs.Numbers.{finest_level, number_range}
 use Rattle.amr_num.specs.declared.Axis.{Axis}

@@ -1,5 +1,5 @@
 -- Why a script is refused, as it is printed.
-use Rattle.std.specs.Prelude.{ℕ, ◌+◌, ◌*◌, ◌==◌, if◌then◌else◌, List, [], ◌∷◌, ◌++◌, ℤ, ◌-ℤ◌, codes}
+use Rattle.std.specs.Prelude.{ℕ, List, codes}
 use Rattle.mesh_model.specs.declared.language.script.Reason.{Reason}
 use Rattle.mesh_model.specs.declared.language.script.Reason.TheVariants.{TooLong, TextAfterEnd, UnknownCommand, DomainMissing, TooLate, Twice, WordCount, UnknownVariable, NotNumber, OutOfRange, UnknownWord, BadName, NameTaken, TooMany, Unpaired, BadBox, EndMissing}
 

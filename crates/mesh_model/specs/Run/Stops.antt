@@ -1,14 +1,13 @@
 -- Why a command is refused on a mesh. It leaves the mesh then.
-use Rattle.std.specs.Prelude.{◌+◌, ◌*◌, ◌^◌, Bool, ◌&&◌, nat_lt, nat_le, if◌then◌else◌, ℤ, unsigned_abs, List, length, Option, Some, None}
+use Rattle.std.specs.Prelude.{Bool, ◌&&◌, nat_lt, nat_le, if◌then◌else◌, ℤ, List, length, Option, Some, None}
 use Rattle.std.specs.Option.{option_or, option_map}
 use Rattle.amr_num.specs.declared.BlockAt.{BlockAt}
-use Rattle.mesh_model.specs.declared.geometry.Shape.{Shape}
 use Rattle.mesh_model.specs.declared.language.script.Command.{Command}
 use Rattle.mesh_model.specs.declared.language.script.Command.TheVariants.{FillAll, FillBox, FaceSet, EdgeSet, Uniform, MarkRefine, MarkDerefine, RefineWhere, DerefineWhere, Regrid, Advect, Curl, Induct, Checkpoint, PrintSize, PrintMesh, PrintTree, PrintRanks, PrintTrace, PrintVar, PrintGuards, Total, NetFlux}
 use Rattle.mesh_model.specs.declared.run.stops.Refusal.{Refusal}
 use Rattle.mesh_model.specs.declared.run.stops.Refusal.TheVariants.{Range, Courant, Level, Place, PlaceBlock, Blocks}
 use Rattle.mesh_model.specs.declared.fields.spot.Spot.TheVariants.{Face, Edge}
-use Rattle.mesh_model.specs.Fields.Advect.{keeps_courant, Speeds, advect, three}
+use Rattle.mesh_model.specs.Fields.Advect.{keeps_courant, advect, three}
 use Rattle.mesh_model.specs.Fields.Induct.{curl, induct, uniform}
 use Rattle.mesh_model.specs.Geometry.Limits.{most_nodes}
 use Rattle.mesh_model.specs.Tree.Order.{nodes}

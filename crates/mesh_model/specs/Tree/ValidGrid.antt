@@ -1,7 +1,6 @@
 -- When a grid is valid: its leaves tile the domain and keep the level rule.
-use Rattle.std.specs.Prelude.{◌≡◌, ℕ, suc, true, ◌&&◌, ◌-◌, ◌*◌, ◌/◌, ◌^◌, ◌<◌, ◌≤◌, length}
+use Rattle.std.specs.Prelude.{◌≡◌, suc, true, ◌≤◌, length}
 use Rattle.amr_num.specs.declared.BlockAt.{BlockAt}
-use Rattle.mesh_model.specs.declared.geometry.Shape.{Shape}
 use Rattle.mesh_model.specs.Geometry.Blocks.{InDomain, LiesIn}
 use Rattle.mesh_model.specs.Tree.Kinds.{Grid}
 pub use Rattle.mesh_model.specs.Tree.Order.{IsIn}
