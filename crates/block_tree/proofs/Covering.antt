@@ -20,7 +20,7 @@ use Rattle.mesh_model.proofs.GeometryLemmas.ShapeLimits.{cells_some}
 use Rattle.mesh_model.proofs.TreeLemmas.Tests.{refuted}
 use Rattle.mesh_model.proofs.TreeLemmas.Tiling.{lies_trans, domain_up, leaf_says, leaf_shows, split_says}
 use Rattle.block_tree.proofs.Leaves.{leaf_alone}
-use Rattle.block_tree.specs.Numbered.{IsNumberOf, IsLeafOver}
+use Rattle.block_tree.specs.Numbered.{IsNumberOf}
 
 -- the block of level l in which a cell lies
 unfoldable pub over : ℕ → CellAt → ℕ → BlockAt

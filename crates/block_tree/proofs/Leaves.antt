@@ -8,7 +8,7 @@ use Rattle.mesh_model.specs.Tree.Order.{IsIn, begun_at, nodes}
 use Rattle.mesh_model.specs.Tree.Kinds.{Grid, lies_in, is_leaf_block, is_split_block}
 use Rattle.mesh_model.specs.Tree.ValidGrid.{Valid}
 use Rattle.mesh_model.proofs.TreeLemmas.Nodes.{begun_in, node_in, in_node}
-use Rattle.mesh_model.proofs.TreeLemmas.Tests.{refuted, found, there, and_both, in_either}
+use Rattle.mesh_model.proofs.TreeLemmas.Tests.{refuted, found, there, and_both}
 use Rattle.mesh_model.proofs.TreeLemmas.Tiling.{both_true, lies_says, lies_shows, lies_trans, lies_refl, same_level, finest, finest_in, child_in, child_of_split, domain_up, leaf_says, leaf_shows, split_says, split_shows}
 use Rattle.mesh_model.proofs.TreeLemmas.Regrown.{is_parent}
 use Rattle.mesh_model.proofs.TreeLemmas.Levels.{is_child}

@@ -1,5 +1,5 @@
 -- Nodes by rising key: the first child of a node stands directly behind it.
-use Rattle.std.proofs.Common.{◌≡◌, ℕ, suc, ◌+◌, ◌*◌, ◌^◌, ◌<◌, ◌≤◌, true, false, refl, sym, ap, ◌∙◌, arith, inl, inr, subst, [], length, pos, None}
+use Rattle.std.proofs.Common.{◌≡◌, ℕ, suc, ◌+◌, ◌*◌, ◌^◌, ◌<◌, ◌≤◌, true, false, sym, ap, ◌∙◌, arith, inl, inr, subst, length}
 use Rattle.std.proofs.Math.Nat.{mul-le-mul_right}
 use Rattle.std.proofs.lemmas.Bool.{cases_lt}
 use Rattle.amr_num.specs.declared.BlockAt.{BlockAt}
@@ -8,7 +8,6 @@ use Rattle.mesh_model.specs.Geometry.Blocks.{child_block, InDomain}
 use Rattle.mesh_model.specs.Geometry.Limits.{IsShape}
 use Rattle.mesh_model.specs.Tree.Order.{IsIn, Sorted, key, nodes}
 use Rattle.mesh_model.specs.Tree.Kinds.{Grid, is_leaf_block, is_split_block}
-use Rattle.mesh_model.specs.Fields.Plain.{Mesh}
 use Rattle.mesh_model.specs.Tree.ValidGrid.{Valid, FewNodes}
 use Rattle.mesh_model.proofs.TreeLemmas.Nodes.{nodes_sorted}
 use Rattle.mesh_model.proofs.TreeLemmas.Sorting.{morton_child}

@@ -1,4 +1,4 @@
-use Rattle.std.proofs.Common.{◌≡◌, ◌<◌, true, ap, arith}
+use Rattle.std.proofs.Common.{◌≡◌, true, ap, arith}
 use Rattle.mesh_model.specs.Tree.Kinds.{Grid, is_leaf_block}
 use Rattle.mesh_model.proofs.TreeLemmas.Tiling.{leaf_says}
 use Rattle.block_tree.specs.GridOf.{grid_of}

@@ -1,8 +1,7 @@
-use Rattle.std.proofs.Common.{◌≡◌, ℕ, ◌<◌, true, false, length, replicate, sym, ap, subst, ◌∙◌, arith, Bool, List}
+use Rattle.std.proofs.Common.{◌≡◌, length, sym, ap, ◌∙◌, arith, Bool, List}
 use Rattle.mesh_model.specs.Tree.Order.{nodes}
-use Rattle.mesh_model.specs.Tree.Kinds.{is_leaf_block}
 use Rattle.block_tree.specs.GridOf.{grid_of}
-use Rattle.block_tree.specs.Numbered.{IsNode, block_at, flag_in}
+use Rattle.block_tree.specs.Numbered.{flag_in}
 use Rattle.block_tree.proofs.Flat.{roots_may, children_may}
 use Rattle.block_tree.proofs.tests.too_many_nodes_are_counted.Goals as goal
 

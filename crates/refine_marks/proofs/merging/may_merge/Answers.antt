@@ -1,11 +1,10 @@
-use Rattle.std.proofs.Common.{◌≡◌, ℕ, suc, ◌+◌, true, false, Bool, not, ◌&&◌, ◌==◌, ap, ◌∙◌, sym, refl, subst, arith, eq-eqb, ne_eqb}
+use Rattle.std.proofs.Common.{◌≡◌, suc, ◌+◌, true, false, Bool, not, ◌&&◌, ◌==◌, ap, ◌∙◌, sym, refl, subst, arith, eq-eqb, ne_eqb}
 use Rattle.std.specs.List.{list_all}
 use Rattle.amr_num.specs.declared.BlockAt.{BlockAt}
 use Rattle.block_tree.specs.GridOf.{grid_of}
 use Rattle.block_tree.specs.Numbered.{block_at}
 use Rattle.mesh_model.specs.Geometry.Blocks.{children}
 use Rattle.mesh_model.specs.Tree.Closure.{is_ready, is_refined}
-use Rattle.refine_marks.specs.Closing.{may_merge}
 use Rattle.refine_marks.specs.Flags.{AreFlagsAt, touches_any}
 use Rattle.refine_marks.specs.Planned.{marked_by}
 use Rattle.refine_marks.proofs.Flagged.{at_level}

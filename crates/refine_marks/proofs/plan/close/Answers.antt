@@ -1,10 +1,5 @@
-use Rattle.std.proofs.Common.{ap, sym, ◌∙◌, map}
 use Rattle.block_tree.specs.GridOf.{grid_of}
-use Rattle.block_tree.specs.Numbered.{blocks_of, flag_in}
 use Rattle.mesh_model.specs.Tree.Closure.{is_refined, is_merged}
-use Rattle.mesh_model.specs.Tree.Order.{nodes}
-use Rattle.mesh_model.specs.Tree.Kinds.{Grid}
-use Rattle.mesh_model.specs.Tree.Regrown.{regrown}
 use Rattle.refine_marks.specs.Planned.{marked_by}
 use Rattle.refine_marks.proofs.Plans.{refine_least, merge_greatest, may_regrow, grown_grid}
 use Rattle.refine_marks.proofs.Sets.{flags_are}

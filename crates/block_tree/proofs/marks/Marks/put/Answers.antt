@@ -2,7 +2,7 @@ use Rattle.std.proofs.Common.{◌≡◌, true, ◌<◌, length, slice_set, arith
 use Rattle.std.proofs.Math.ListN.{length-set}
 use Rattle.mesh_model.specs.Tree.Kinds.{is_leaf_block}
 use Rattle.block_tree.specs.GridOf.{grid_of}
-use Rattle.block_tree.specs.Numbered.{block_at, flag_in}
+use Rattle.block_tree.specs.Numbered.{flag_in}
 use Rattle.block_tree.proofs.Flags.{set_put, put_keeps, flag_put, flag_kept}
 use Rattle.block_tree.proofs.marks.Marks.put.Goals as goal
 
