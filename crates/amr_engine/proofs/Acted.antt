@@ -18,6 +18,7 @@ use Rattle.mesh_model.specs.Fields.RangeWalk.{is_above}
 use Rattle.mesh_model.specs.Run.Runs.{TheSink, declared_in, mesh_after, needs, text_of}
 use Rattle.mesh_model.specs.Run.Stops.{refusal}
 use Rattle.mesh_model.specs.Fields.Valid.{InRange, ValidMesh}
+use Rattle.mesh_model.proofs.RunLemmas.RunLaws.{prints_nothing}
 use Rattle.mesh_model.proofs.RunLemmas.RunValid.{keeps_validity}
 use Rattle.outside_io.specs.Moved.{Takes}
 use Rattle.outside_io.specs.declared.Failed.{Failed}
@@ -181,11 +182,11 @@ leaves_quiet by.Sink m command text taken faults silent may = absurd (silent may
 leaves_quiet by.Memory m command text taken faults silent may = record { taken = refl; calm = refl }
 
 -- a command that prints nothing
-pub acts_changing : (result : Result (Unit {0}) Cause) (m after : Mesh) (command is : Command) (taken : Option (List ℕ)) (faults : ℕ) → command ≡ is → needs is ≢ TheSink → text_of m is ≡ [] → Changes result m is after →
+pub acts_changing : (result : Result (Unit {0}) Cause) (m after : Mesh) (command is : Command) (taken : Option (List ℕ)) (faults : ℕ) → command ≡ is → needs is ≢ TheSink → Changes result m is after →
     Acts result m command after (quiet taken faults)
-acts_changing (Ok done) m after command is taken faults e unread silent changes = acts_quietly m after command is taken faults e changes.0 silent changes.1
-acts_changing (Err cause) m after command is taken faults e unread silent changes =
-    subst (λ k. Acts (Err cause) m k after (quiet taken faults)) (sym e) (changes.1, (changes.0, leaves_quiet (stopped_by cause) m is (text_of m is) taken faults unread changes.0))
+acts_changing (Ok done) m after command is taken faults e silent changes = acts_quietly m after command is taken faults e changes.0 (prints_nothing m is silent) changes.1
+acts_changing (Err cause) m after command is taken faults e silent changes =
+    subst (λ k. Acts (Err cause) m k after (quiet taken faults)) (sym e) (changes.1, (changes.0, leaves_quiet (stopped_by cause) m is (text_of m is) taken faults silent changes.0))
 
 -- a command that prints
 pub acts_printing : (printed : Result (Unit {0}) Failed) (result : Result (Unit {0}) Cause) (m after : Mesh) (command is : Command) (w : Written) → command ≡ is → needs is ≡ TheSink → refusal m is ≡ None → mesh_after m is ≡ m →

@@ -1,5 +1,5 @@
 -- What each command keeps, along a run up to the first that is refused.
-use Rattle.std.proofs.Common.{true, ◌≡◌, ℕ, List, [], ◌∷◌, Option, Some, None, All, ℤ, pos, ◌+ℤ◌, ◌≤ℤ◌, refl, sym, ap, subst, ◌∙◌, ne_eqb}
+use Rattle.std.proofs.Common.{true, ◌≡◌, ◌≢◌, ℕ, List, [], ◌∷◌, Option, Some, None, All, ℤ, pos, ◌+ℤ◌, ◌≤ℤ◌, refl, sym, ap, subst, ◌∙◌, ne_eqb}
 use Rattle.std.proofs.lemmas.List.Elements.{All-head, All-tail}
 use Rattle.mesh_model.specs.declared.language.script.Command.{Command}
 use Rattle.mesh_model.specs.declared.language.script.Command.TheVariants.{FillAll, FillBox, FaceSet, EdgeSet, Uniform, MarkRefine, MarkDerefine, RefineWhere, DerefineWhere, Regrid, Advect, Curl, Induct, Checkpoint, PrintSize, PrintMesh, PrintTree, PrintRanks, PrintTrace, PrintVar, PrintGuards, Total, NetFlux}
@@ -9,7 +9,7 @@ use Rattle.mesh_model.specs.Fields.Advect.{three, keeps_courant}
 use Rattle.mesh_model.specs.Language.Commands.{IsLineOf}
 use Rattle.mesh_model.specs.Fields.Induct.{leaf_electromotive_force}
 use Rattle.mesh_model.specs.Fields.Plain.{Mesh}
-use Rattle.mesh_model.specs.Run.Runs.{AtEachCommand, KeepsBalance, KeepsOuts, KeepsTotals, StaysPositive, declared_in, done, mesh_after}
+use Rattle.mesh_model.specs.Run.Runs.{AtEachCommand, KeepsBalance, KeepsOuts, KeepsTotals, StaysPositive, TheSink, declared_in, done, mesh_after, needs, text_of}
 use Rattle.mesh_model.specs.Fields.Setting.{derefine_where, mark_derefine, mark_refine, refine_where, set_edge, set_face}
 use Rattle.mesh_model.specs.Run.Stops.{refusal}
 use Rattle.mesh_model.specs.Fields.Valid.{ValidMesh}
@@ -20,6 +20,21 @@ use Rattle.mesh_model.proofs.FieldLemmas.RegridBalance.{regrid_balances}
 use Rattle.mesh_model.proofs.RunLemmas.RunValid.{held, keeps_validity, neither, same_declared}
 use Rattle.mesh_model.proofs.FieldLemmas.Totals.{regrid_keeps_total}
 use Rattle.mesh_model.proofs.FieldLemmas.ValidGrid.{leaf_inside}
+
+-- ---- texts
+
+-- a command that does not need the sink prints nothing
+pub prints_nothing : (m : Mesh) (command : Command) → needs command ≢ TheSink → text_of m command ≡ []
+prints_nothing m PrintSize silent = absurd (silent refl)
+prints_nothing m PrintMesh silent = absurd (silent refl)
+prints_nothing m PrintTree silent = absurd (silent refl)
+prints_nothing m PrintRanks silent = absurd (silent refl)
+prints_nothing m PrintTrace silent = absurd (silent refl)
+prints_nothing m (PrintVar group) silent = absurd (silent refl)
+prints_nothing m (PrintGuards group at) silent = absurd (silent refl)
+prints_nothing m (Total var) silent = absurd (silent refl)
+prints_nothing m NetFlux silent = absurd (silent refl)
+prints_nothing m other silent = refl
 
 -- ---- totals
 

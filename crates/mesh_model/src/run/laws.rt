@@ -3,12 +3,12 @@
 
 ghost use Rattle.mesh_model.specs.Language.Commands.{IsCommandOf, IsLineOf};
 ghost use Rattle.mesh_model.specs.Fields.Plain.{Mesh};
-ghost use Rattle.mesh_model.specs.Run.Runs.{AtEachCommand, KeepsBalance, KeepsOuts, KeepsTotals, StaysPositive, declared_in, done, mesh_after};
+ghost use Rattle.mesh_model.specs.Run.Runs.{AtEachCommand, KeepsBalance, KeepsOuts, KeepsTotals, StaysPositive, TheSink, declared_in, done, mesh_after, needs, text_of};
 ghost use Rattle.mesh_model.specs.Run.Stops.{refusal};
 ghost use Rattle.mesh_model.specs.Fields.Valid.{ValidMesh};
 ghost use Rattle.mesh_model.specs.declared.language.script.Command.{Command};
 ghost use Rattle.mesh_model.specs.declared.language.script.Line.{Line};
-ghost use Rattle.std.specs.Prelude.{◌≡◌, List, None, All};
+ghost use Rattle.std.specs.Prelude.{◌≡◌, ◌≢◌, List, [], None, All};
 
 /// A command that is not refused makes a valid mesh of a valid one, with the same declarations.
 pub fn commands_keep_validity()
@@ -31,4 +31,9 @@ pub fn runs_stay_positive()
 /// Where each leaf cell has net flux 0, it has it after each command that sets no single face.
 pub fn runs_keep_balance()
     ensures { (m : Mesh) (lines : List Line) → ValidMesh m → All (IsLineOf (declared_in m)) lines → AtEachCommand KeepsBalance m (done m lines) }
+{}
+
+/// A command prints only where it needs the sink.
+pub fn reports_alone_print()
+    ensures { (m : Mesh) (command : Command) → needs command ≢ TheSink → text_of m command ≡ [] }
 {}

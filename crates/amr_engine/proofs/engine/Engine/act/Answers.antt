@@ -29,7 +29,7 @@ returns-in-FillAll-clause-acts g c =
     let fits = subst (IsCommandOf (declared_of self)) c.in-FillAll.is c.requires.fits in
     let some : 0 < length self.declared.names.cells = let there = fits.0 in omega (arith, there) in
     let made = c.fill_all.ensures.mesh ∙ ap (fill_all (values_of self) var) (kept c.in-FillAll.value (2 ^ 40) fits.1 (omega arith)) in
-    acts_changing (Ok tt) (plain self) (plain c.fill_all.new.self) c.args.command (FillAll var c.in-FillAll.value) (g.K.Sink.taken c.args.sink.now) (g.K.Sink.faults c.args.sink.now) c.in-FillAll.is (λ sink. cc) refl
+    acts_changing (Ok tt) (plain self) (plain c.fill_all.new.self) c.args.command (FillAll var c.in-FillAll.value) (g.K.Sink.taken c.args.sink.now) (g.K.Sink.faults c.args.sink.now) c.in-FillAll.is (λ sink. cc)
     (lifted (Ok tt) self c.fill_all.new.self (FillAll var c.in-FillAll.value) c.fill_all.ensures.declared c.fill_all.ensures.hierarchy some refl refl (refl, made))
 
 pub returns-in-FillBox-clause-acts : goal.returns-in-FillBox-clause-acts
@@ -40,17 +40,17 @@ returns-in-FillBox-clause-acts g c =
     let fits = subst (IsCommandOf (declared_of self)) b.is c.requires.fits in
     let some : 0 < length self.declared.names.cells = let there = fits.0 in omega (arith, there) in
     let made = c.fill_box.ensures.mesh ∙ ap (fill_box (values_of self) b.var b.level b.low b.high) (kept b.value (2 ^ 40) fits.2 (omega arith)) in
-    acts_changing (Ok tt) (plain self) (plain c.fill_box.new.self) c.args.command (FillBox b.var b.level b.low b.high b.value) (g.K.Sink.taken c.args.sink.now) (g.K.Sink.faults c.args.sink.now) b.is (λ sink. cc) refl
+    acts_changing (Ok tt) (plain self) (plain c.fill_box.new.self) c.args.command (FillBox b.var b.level b.low b.high b.value) (g.K.Sink.taken c.args.sink.now) (g.K.Sink.faults c.args.sink.now) b.is (λ sink. cc)
     (lifted (Ok tt) self c.fill_box.new.self (FillBox b.var b.level b.low b.high b.value) c.fill_box.ensures.declared c.fill_box.ensures.hierarchy some refl refl (refl, made))
 
 pub returns-in-MarkRefine-clause-acts : goal.returns-in-MarkRefine-clause-acts
-returns-in-MarkRefine-clause-acts g c = acts_changing c.mark_refine.result (plain c.args.self.now) (plain c.mark_refine.new.self) c.args.command (MarkRefine c.in-MarkRefine.at) (g.K.Sink.taken c.args.sink.now) (g.K.Sink.faults c.args.sink.now) c.in-MarkRefine.is (λ sink. cc) refl c.mark_refine.ensures.changes
+returns-in-MarkRefine-clause-acts g c = acts_changing c.mark_refine.result (plain c.args.self.now) (plain c.mark_refine.new.self) c.args.command (MarkRefine c.in-MarkRefine.at) (g.K.Sink.taken c.args.sink.now) (g.K.Sink.faults c.args.sink.now) c.in-MarkRefine.is (λ sink. cc) c.mark_refine.ensures.changes
 
 pub returns-in-MarkDerefine-clause-acts : goal.returns-in-MarkDerefine-clause-acts
-returns-in-MarkDerefine-clause-acts g c = acts_changing c.mark_derefine.result (plain c.args.self.now) (plain c.mark_derefine.new.self) c.args.command (MarkDerefine c.in-MarkDerefine.at) (g.K.Sink.taken c.args.sink.now) (g.K.Sink.faults c.args.sink.now) c.in-MarkDerefine.is (λ sink. cc) refl c.mark_derefine.ensures.changes
+returns-in-MarkDerefine-clause-acts g c = acts_changing c.mark_derefine.result (plain c.args.self.now) (plain c.mark_derefine.new.self) c.args.command (MarkDerefine c.in-MarkDerefine.at) (g.K.Sink.taken c.args.sink.now) (g.K.Sink.faults c.args.sink.now) c.in-MarkDerefine.is (λ sink. cc) c.mark_derefine.ensures.changes
 
 pub returns-in-Regrid-clause-acts : goal.returns-in-Regrid-clause-acts
-returns-in-Regrid-clause-acts g c = acts_changing c.regrid.result (plain c.args.self.now) (plain c.regrid.new.self) c.args.command Regrid (g.K.Sink.taken c.args.sink.now) (g.K.Sink.faults c.args.sink.now) c.in-Regrid.is (λ sink. cc) refl c.regrid.ensures.changes
+returns-in-Regrid-clause-acts g c = acts_changing c.regrid.result (plain c.args.self.now) (plain c.regrid.new.self) c.args.command Regrid (g.K.Sink.taken c.args.sink.now) (g.K.Sink.faults c.args.sink.now) c.in-Regrid.is (λ sink. cc) c.regrid.ensures.changes
 
 pub returns-in-Advect-clause-acts : goal.returns-in-Advect-clause-acts
 unfolding refusal first_excess
@@ -59,7 +59,7 @@ returns-in-Advect-clause-acts g c =
     let command = Advect c.in-Advect.var c.in-Advect.speeds in
     let fits = subst (IsCommandOf (declared_of self)) c.in-Advect.is c.requires.fits in
     let some : 0 < length self.declared.names.cells = let there = fits.0 in omega (arith, there) in
-    acts_changing c.advect.result (plain self) (plain c.advect.new.self) c.args.command command (g.K.Sink.taken c.args.sink.now) (g.K.Sink.faults c.args.sink.now) c.in-Advect.is (λ sink. cc) refl
+    acts_changing c.advect.result (plain self) (plain c.advect.new.self) c.args.command command (g.K.Sink.taken c.args.sink.now) (g.K.Sink.faults c.args.sink.now) c.in-Advect.is (λ sink. cc)
     (lifted c.advect.result self c.advect.new.self command c.advect.ensures.declared c.advect.ensures.hierarchy some refl refl c.advect.ensures.changes)
 
 pub returns-in-PrintVar-clause-acts : goal.returns-in-PrintVar-clause-acts
