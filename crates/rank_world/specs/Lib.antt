@@ -1,3 +1,4 @@
+pub mod Holding
 pub mod Knowing
 pub mod Slots
 pub mod Starting
