@@ -42,3 +42,5 @@ pub mod Walking
 pub mod BlockPlaces
 pub mod BlockArrays
 pub mod BlockOctants
+pub mod Worlds
+pub mod FirstFound

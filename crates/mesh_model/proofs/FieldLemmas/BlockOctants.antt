@@ -1,8 +1,9 @@
 -- Blocks that hold views, after cells were summed into them or parted among them.
-use Rattle.std.proofs.Common.{◌≡◌, ◌≢◌, ℕ, suc, ◌+◌, ◌-◌, ◌*◌, ◌/◌, ◌%◌, ◌<◌, ◌⊎◌, List, ℤ, false, sym, ap, ap₂, ◌∙◌, arith, ◌≤◌}
+use Rattle.amr_num.proofs.Sizes.{sum_within}
+use Rattle.std.proofs.Common.{◌≡◌, ◌≢◌, ℕ, suc, ◌+◌, ◌-◌, ◌*◌, ◌/◌, ◌%◌, ◌<◌, ◌⊎◌, List, ℤ, false, sym, ap, ap₂, ◌∙◌, arith, ◌≤◌, ◌^◌, subst}
 use Rattle.amr_num.specs.declared.BlockAt.{BlockAt}
 use Rattle.amr_num.specs.declared.CellAt.{CellAt}
-use Rattle.amr_num.specs.Numbers.{part}
+use Rattle.amr_num.specs.Numbers.{part, Within}
 use Rattle.amr_num.proofs.Parts.{sum_below_same}
 use Rattle.mesh_model.specs.Geometry.Blocks.{child_block}
 use Rattle.mesh_model.specs.Geometry.Coordinates.{octant_of, parent_cell, sub_cell}
@@ -13,7 +14,7 @@ use Rattle.mesh_model.specs.Fields.Views.{cell_view, view_at}
 use Rattle.mesh_model.proofs.FieldLemmas.CellSums.{TreeLike, at_inner, cell_view_sum}
 use Rattle.mesh_model.proofs.FieldLemmas.ValidGrid.{tree}
 use Rattle.mesh_model.specs.Fields.ArrayPlaces.{HoldsViews, IsInBox, side, Fits, IsSize, cell_extents}
-use Rattle.mesh_model.specs.Fields.Octants.{IsRestricted, IsSplit, OctantHolds, cells_of, eight, half_at, octant_box, parted}
+use Rattle.mesh_model.specs.Fields.Octants.{IsRestricted, IsSplit, OctantHolds, cells_of, eight, half_at, octant_box, parted, AreFew}
 use Rattle.mesh_model.proofs.GeometryLemmas.Halves.{half_below, half_of, halved, in_half, pair_inside, rest_below, same_half, two_halves, by_size}
 use Rattle.mesh_model.proofs.FieldLemmas.BlockPlaces.{above_digit}
 
@@ -181,3 +182,17 @@ octant_fits n g q size = record { x = fits q; y = fits (q / 2); z = fits (q / 4)
   where
     fits : (r : ℕ) → g + half_at n r + n / 2 ≤ side n g
     fits r = by_size (λ m. g + m / 2 * (r % 2) + m / 2 ≤ m + 2 * g) n size.cells (omega arith) (omega arith)
+
+-- sums of numbers in range are small enough
+pub small_sums : (n g : ℕ) (numbers : ℕ → ℕ → ℕ → ℤ) → (n ≡ 4) ⊎ (n ≡ 8) → ((i j k : ℕ) → i < n → j < n → k < n → Within (2 ^ 40) (numbers (g + i) (g + j) (g + k))) → AreFew n g numbers
+unfolding eight
+small_sums n g numbers size small i j k hi hj hk =
+    let each : (o : ℕ) → o < 8 → Within (2 ^ 40) (numbers (g + 2 * i + o % 2) (g + 2 * j + o / 2 % 2) (g + 2 * k + o / 4 % 2)) = λ o h.
+    (let here = small (2 * i + o % 2) (2 * j + o / 2 % 2) (2 * k + o / 4 % 2) (pair_inside n i (o % 2) size hi (omega arith)) (pair_inside n j (o / 2 % 2) size hj (omega arith)) (pair_inside n k (o / 4 % 2) size hk (omega arith)) in
+    let x : g + (2 * i + o % 2) ≡ g + 2 * i + o % 2 = omega arith in
+    let y : g + (2 * j + o / 2 % 2) ≡ g + 2 * j + o / 2 % 2 = omega arith in
+    let z : g + (2 * k + o / 4 % 2) ≡ g + 2 * k + o / 4 % 2 = omega arith in
+    subst (λ a. Within (2 ^ 40) (numbers a (g + 2 * j + o / 2 % 2) (g + 2 * k + o / 4 % 2))) x
+    (subst (λ b. Within (2 ^ 40) (numbers (g + (2 * i + o % 2)) b (g + 2 * k + o / 4 % 2))) y (subst (λ c. Within (2 ^ 40) (numbers (g + (2 * i + o % 2)) (g + (2 * j + o / 2 % 2)) c)) z here))) in
+    let all = sum_within 8 (2 ^ 40) (λ o. numbers (g + 2 * i + o % 2) (g + 2 * j + o / 2 % 2) (g + 2 * k + o / 4 % 2)) each in
+    omega arith

@@ -1,0 +1,49 @@
+-- Worlds whose nodes hold the views of a field.
+use Rattle.std.specs.Prelude.{◌≡◌, ℕ, ◌+◌, ◌<◌, ◌^◌, true, List, length, ℤ, None}
+use Rattle.amr_num.specs.declared.CellAt.{CellAt}
+use Rattle.amr_num.specs.Numbers.{Within}
+use Rattle.mesh_model.specs.declared.fields.values.Var.TheVariants.{Cell}
+use Rattle.mesh_model.specs.Fields.Arrays.{array_in}
+use Rattle.mesh_model.specs.Fields.Octants.{cells_of}
+use Rattle.mesh_model.specs.Fields.ArrayPlaces.{HoldsViews}
+use Rattle.mesh_model.specs.Tree.Kinds.{Grid, is_leaf_block}
+use Rattle.mesh_model.specs.Fields.Plain.{Mesh}
+use Rattle.mesh_model.specs.Fields.Ranks.{WorldState, rank_at}
+use Rattle.block_tree.specs.Numbered.{IsNode, block_at}
+
+-- the array of a cell variable of a node, and its numbers by places
+abbrev pub cell_array : WorldState → ℕ → ℕ → List ℤ
+cell_array w v node = array_in (rank_at w 0).own.values (Cell v) node
+
+abbrev pub numbers_of : WorldState → ℕ → ℕ → ℕ → ℕ → ℕ → ℤ
+numbers_of w v node = cells_of w.told.grid (cell_array w v node)
+
+-- the node is a leaf
+pub record IsLeafNode (g : Grid) (node : ℕ) : Type 0 where
+  pub there : IsNode g node
+  pub leaf : is_leaf_block g (block_at g node) ≡ true
+
+-- a node holds the views of a field; each leaf does, whose views are its contents; each node does
+abbrev pub NodeHolds : WorldState → ℕ → (CellAt → ℤ) → ℕ → Type 0
+NodeHolds w v content node = HoldsViews w.told.grid content (block_at w.told.grid node) (numbers_of w v node)
+
+abbrev pub LeavesHold : WorldState → ℕ → (CellAt → ℤ) → Type 0
+LeavesHold w v content = (node : ℕ) → IsLeafNode w.told.grid node → NodeHolds w v content node
+
+abbrev pub NodesHold : WorldState → ℕ → (CellAt → ℤ) → Type 0
+NodesHold w v content = (node : ℕ) → IsNode w.told.grid node → NodeHolds w v content node
+
+-- the numbers of a leaf's cells are at most 2^40 in absolute value
+pub record LeafInRange (w : WorldState) (v node : ℕ) : Type 0 where
+  pub cells : (i j k : ℕ) → let s = w.told.grid.shape in i < s.n → j < s.n → k < s.n → Within (2 ^ 40) (numbers_of w v node (s.g + i) (s.g + j) (s.g + k))
+
+abbrev pub LeavesInRange : WorldState → Type 0
+LeavesInRange w = (v node : ℕ) → v < w.told.counts.cells → IsLeafNode w.told.grid node → LeafInRange w v node
+
+-- the world is that of a mesh: its tree and its variables, and each leaf holds the contents
+pub record IsOfMesh (w : WorldState) (m : Mesh) : Type 0 where
+  pub grid : w.told.grid ≡ m.grid
+  pub cells : w.told.counts.cells ≡ length m.names.cells
+  pub faces : w.told.counts.faces ≡ 0 → m.names.face ≡ None
+  pub edges : w.told.counts.edges ≡ 0 → m.names.edge ≡ None
+  pub contents : (v : ℕ) → v < w.told.counts.cells → LeavesHold w v (m.cells v)

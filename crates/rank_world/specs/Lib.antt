@@ -1,0 +1,6 @@
+pub mod Holding
+pub mod Knowing
+pub mod Slots
+pub mod Starting
+pub mod RankLends
+pub mod WorldLends

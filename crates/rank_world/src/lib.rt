@@ -1,0 +1,13 @@
+//! The world of a mesh: its tree, which every rank knows, and the ranks with the arrays of their nodes.
+//!
+//! There is one rank, and it holds all nodes.
+#![tactic(auto)]
+
+mod known;
+mod rank;
+mod taking;
+mod world;
+
+pub use known::Known;
+pub use rank::Rank;
+pub use world::World;
