@@ -1,4 +1,5 @@
 -- Fluxes on the mesh of level 0, by the contents on both sides.
+use Rattle.std.specs.Prelude.{unwrap_or}
 use Rattle.std.proofs.Common.{◌≡◌, ℕ, zero, suc, ◌-◌, ◌<◌, ◌==◌, Bool, true, false, ◌&&◌, ◌||◌, if◌then◌else◌, List, Option, Some, None, ℤ, pos, negsuc, ◌-ℤ◌, refl, sym, ap, ap₂, subst, ◌∙◌, arith, inl, inr, ne_eqb, eq-eqb}
 use Rattle.std.proofs.lemmas.Bool.{cases_lt, cases_eq, le-ltb, lt-ltb}
 use Rattle.amr_num.specs.Numbers.{carry}
@@ -111,7 +112,11 @@ below_later periodic e zero h = absurd (omega arith)
 below_later periodic e (suc p) h = omega arith
 
 pub below_first : (periodic : Bool) (e p : ℕ) → p ≡ 0 → below_or periodic e p ≡ (if periodic then e - 1 else 0)
-below_first periodic e p h = ap (below_or periodic e) h
+below_first periodic e p h = ap (below_or periodic e) h ∙ first periodic
+  where
+    first : (periodic : Bool) → below_or periodic e 0 ≡ (if periodic then e - 1 else 0)
+    first true = refl
+    first false = refl
 
 above_own : (periodic : Bool) (e p : ℕ) → p < e → above_or periodic e p ≡ p
 above_own periodic e p h = rw (lt-ltb p e h) refl
@@ -127,7 +132,7 @@ above_small periodic e p h = elim (cases_lt (suc p) e) [
   | inr last ↦ rw (le-ltb (suc p) e last) (at_end periodic)
 ]
   where
-    at_end : (periodic : Bool) → (if periodic then 0 else e - 1) < e
+    at_end : (periodic : Bool) → unwrap_or (if periodic then Some 0 else None) (e - 1) < e
     at_end true = omega arith
     at_end false = omega arith
 

@@ -6,7 +6,7 @@ pub mod coordinates;
 mod outside;
 mod touch;
 
-pub use adjacent::{around_edge, side_cells};
+pub use adjacent::{above, around_edge, below, side_cells};
 use amr_num::SideKind;
 pub use outside::{inside_cell, inside_edge, inside_face};
 pub use touch::touches;

@@ -1,6 +1,6 @@
 -- Advect leaves no content below 0: what leaves a cell is at most its content.
 use Rattle.std.proofs.Common.{leb-true, ◌≡◌, ℕ, zero, suc, ◌+◌, ◌-◌, ◌*◌, ◌/◌, ◌^◌, ◌<◌, ◌≤◌, Bool, true, false, ℤ, pos, negsuc, ◌+ℤ◌, ◌-ℤ◌, ◌*ℤ◌, ◌≤ℤ◌, refl, sym, ap, ◌∙◌, arith, inl, inr, subst, Option, Some, None}
-use Rattle.std.specs.Prelude.{◌==◌, if◌then◌else◌, nat_lt, unsigned_abs, neg_ℤ, option_map}
+use Rattle.std.specs.Prelude.{unwrap_or, ◌==◌, if◌then◌else◌, nat_lt, unsigned_abs, neg_ℤ, option_map}
 use Rattle.std.proofs.Math.Nat.{mul-le-mul_left, mul-le-mul_right, div-mul-le_self}
 use Rattle.std.proofs.Math.Pow.{pow_mono}
 use Rattle.std.proofs.lemmas.Int.{ints}
@@ -179,18 +179,15 @@ some_same : (c d : CellAt) → Some c ≡ Some d → c ≡ d
 unfolding or_else
 some_same c d h = ap (or_else d) h
 
-donor_low : (a : Axis) (b : Bool) (e p : ℕ) (c d : CellAt) → moved a (below b e p) c ≡ Some d → with a (below_or b e p) c ≡ d
-donor_low a true e zero c d h = some_same _ _ h
-donor_low a false e zero c d h = cc
-donor_low a b e (suc p) c d h = some_same _ _ h
+donor_from : (a : Axis) (o : Option ℕ) (other : ℕ) (c d : CellAt) → moved a o c ≡ Some d → with a (unwrap_or o other) c ≡ d
+donor_from a None other c d h = cc
+donor_from a (Some p) other c d h = some_same _ _ h
 
-donor_high_at : (a : Axis) (t b : Bool) (e p : ℕ) (c d : CellAt) → moved a (if t then Some p else (if b then Some 0 else None)) c ≡ Some d → with a (if t then p else (if b then 0 else e - 1)) c ≡ d
-donor_high_at a true b e p c d h = some_same _ _ h
-donor_high_at a false true e p c d h = some_same _ _ h
-donor_high_at a false false e p c d h = cc
+donor_low : (a : Axis) (b : Bool) (e p : ℕ) (c d : CellAt) → moved a (below b e p) c ≡ Some d → with a (below_or b e p) c ≡ d
+donor_low a b e p c d h = donor_from a (below b e p) 0 c d h
 
 donor_high : (a : Axis) (b : Bool) (e p : ℕ) (c d : CellAt) → moved a (above b e p) c ≡ Some d → with a (above_or b e p) c ≡ d
-donor_high a b e p c d h = donor_high_at a (nat_lt p e) b e p c d h
+donor_high a b e p c d h = donor_from a (above b e p) (e - 1) c d h
 
 neg_neg : (x : ℤ) → pos 0 -ℤ neg_ℤ x ≡ x
 neg_neg x = omega (arith, ints)

@@ -2,7 +2,7 @@
 --
 -- Speeds count in 2^-20 of the coarsest cell a step. The flux through a leaf face is what its speed carries of the donor's view.
 -- A leaf cell loses high minus low of its fluxes, where a face with a split side has the sum of its subfaces' fluxes.
-use Rattle.std.specs.Prelude.{nat_le, ℕ, zero, suc, ◌+◌, ◌-◌, ◌*◌, ◌^◌, Bool, true, false, not, ◌&&◌, ◌||◌, ◌==◌, nat_lt, if◌then◌else◌, ℤ, pos, negsuc, ◌+ℤ◌, ◌-ℤ◌, unsigned_abs, List, slice_index_or}
+use Rattle.std.specs.Prelude.{unwrap_or, nat_le, ℕ, zero, suc, ◌+◌, ◌-◌, ◌*◌, ◌^◌, Bool, true, false, not, ◌&&◌, ◌||◌, ◌==◌, nat_lt, if◌then◌else◌, ℤ, pos, negsuc, ◌+ℤ◌, ◌-ℤ◌, unsigned_abs, List, slice_index_or}
 use Rattle.amr_num.specs.declared.Axis.{Axis}
 use Rattle.amr_num.specs.declared.SideKind.{SideKind}
 use Rattle.amr_num.specs.declared.CellAt.{CellAt}
@@ -11,7 +11,7 @@ use Rattle.amr_num.specs.declared.Axis.TheVariants.{X, Y, Z}
 use Rattle.amr_num.specs.declared.SideKind.TheVariants.{Periodic, Outflow, Closed}
 use Rattle.amr_num.specs.Numbers.{carry, finest_level}
 use Rattle.mesh_model.specs.declared.geometry.Shape.{Shape}
-use Rattle.mesh_model.specs.Geometry.Coordinates.{is_periodic, extent, on, with, face_numbers, side_kind, side_index}
+use Rattle.mesh_model.specs.Geometry.Coordinates.{above, below, is_periodic, extent, on, with, face_numbers, side_kind, side_index}
 use Rattle.mesh_model.specs.Tree.Kinds.{Grid}
 use Rattle.mesh_model.specs.Fields.Plain.{Mesh, on_cells}
 use Rattle.mesh_model.specs.Fields.Views.{cell_view, face_down}
@@ -35,13 +35,12 @@ is_closed_at s a l p =
 abbrev pub on_closed_side : Shape → FaceAt → Bool
 on_closed_side s f = is_closed_at s f.axis f.level (on f.axis (face_numbers f))
 
--- the cell coordinate below a position on an axis of e cells, and the one above it, wrapped or clamped
+-- the cell coordinate below a position on an axis of e cells, and the one above it, wrapped, or clamped where there is none
 abbrev pub below_or : Bool → ℕ → ℕ → ℕ
-below_or periodic e zero = if periodic then e - 1 else 0
-below_or periodic e (suc p) = p
+below_or periodic e p = unwrap_or (below periodic e p) 0
 
 abbrev pub above_or : Bool → ℕ → ℕ → ℕ
-above_or periodic e p = if nat_lt p e then p else (if periodic then 0 else e - 1)
+above_or periodic e p = unwrap_or (above periodic e p) (e - 1)
 
 -- with a position on the axis a in c: the cell beside it on the low side for a positive speed, on the high side for a negative one
 abbrev pub blown_from : Shape → Axis → ℤ → CellAt → CellAt

@@ -9,8 +9,8 @@ use crate::geometry::Shape;
 use crate::geometry::axes::{after, extent, is_periodic, place, placed};
 use amr_num::{Axis, CellAt, EdgeAt, FaceAt};
 
-/// The cell coordinate below a position on an axis of `extent` cells, where there is one.
-fn below(periodic: bool, extent: u32, position: u32) -> Option<u32>
+/// The coordinate below a position on an axis of `extent` cells, or blocks, where there is one.
+pub fn below(periodic: bool, extent: u32, position: u32) -> Option<u32>
     requires { 0 < extent }
     ensures { result ≡ coordinates.below periodic extent position }
 {
@@ -21,8 +21,8 @@ fn below(periodic: bool, extent: u32, position: u32) -> Option<u32>
     }
 }
 
-/// The cell coordinate above a position on an axis of `extent` cells, where there is one.
-fn above(periodic: bool, extent: u32, position: u32) -> Option<u32>
+/// The coordinate above a position on an axis of `extent` cells, or blocks, where there is one.
+pub fn above(periodic: bool, extent: u32, position: u32) -> Option<u32>
     ensures { result ≡ coordinates.above periodic extent position }
 {
     if position < extent {

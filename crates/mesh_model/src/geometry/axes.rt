@@ -4,9 +4,10 @@ ghost use Rattle.std.specs.Prelude.{◌≡◌, ◌^◌, ◌<◌, ◌≤◌};
 ghost use Rattle.mesh_model.specs.Geometry.Coordinates as coordinates;
 ghost use Rattle.mesh_model.specs.Geometry.Coordinates.{on, with, next};
 ghost use Rattle.mesh_model.specs.Geometry.Limits.{IsShape};
+ghost use Rattle.mesh_model.specs.Geometry.Touch as touch;
 
 use crate::geometry::Shape;
-use amr_num::{Axis, CellAt, SideKind};
+use amr_num::{Axis, BlockAt, CellAt, SideKind};
 
 /// The next axis in the cycle x, y, z.
 pub(crate) fn after(axis: Axis) -> Axis
@@ -85,5 +86,16 @@ pub fn placed(axis: Axis, coordinate: u32, c: CellAt) -> CellAt
         Axis::X => CellAt { x: coordinate, ..c },
         Axis::Y => CellAt { y: coordinate, ..c },
         Axis::Z => CellAt { z: coordinate, ..c },
+    }
+}
+
+/// A block's coordinate on an axis.
+pub fn block_on(axis: Axis, b: BlockAt) -> u32
+    ensures { result ≡ touch.block_on axis b }
+{
+    match axis {
+        Axis::X => b.x,
+        Axis::Y => b.y,
+        Axis::Z => b.z,
     }
 }

@@ -7,19 +7,8 @@ ghost use Rattle.mesh_model.specs.Geometry.Touch as touch;
 ghost use Rattle.mesh_model.specs.Geometry.Blocks.{InDomain};
 
 use crate::geometry::Shape;
-use crate::geometry::axes::{is_periodic, power_of_two, roots};
+use crate::geometry::axes::{block_on, is_periodic, power_of_two, roots};
 use amr_num::{Axis, BlockAt};
-
-/// A block's coordinate on an axis.
-fn place(axis: Axis, b: BlockAt) -> u32
-    ensures { result ≡ touch.block_on axis b }
-{
-    match axis {
-        Axis::X => b.x,
-        Axis::Y => b.y,
-        Axis::Z => b.z,
-    }
-}
 
 /// Where the block at `x` of `level` begins, in blocks of level 10.
 fn low_end(level: u32, x: u32) -> u32
@@ -68,10 +57,10 @@ fn meet_on(shape: &Shape, a: BlockAt, b: BlockAt, axis: Axis) -> bool
     ensures { result ≡ touch.meet_on shape.now a b axis }
 {
     let extent = roots(shape, axis) * 1024;
-    let low = low_end(a.level, place(axis, a));
-    let high = high_end(a.level, place(axis, a));
-    let other_low = low_end(b.level, place(axis, b));
-    let other_high = high_end(b.level, place(axis, b));
+    let low = low_end(a.level, block_on(axis, a));
+    let high = high_end(a.level, block_on(axis, a));
+    let other_low = low_end(b.level, block_on(axis, b));
+    let other_high = high_end(b.level, block_on(axis, b));
     stretches_meet(
         is_periodic(shape, axis),
         extent,
