@@ -5,3 +5,6 @@ mod cells;
 pub mod laws;
 
 pub use cells::split_cells;
+
+#[cfg(test)]
+mod tests;

@@ -11,3 +11,6 @@ mod world;
 pub use known::Known;
 pub use rank::Rank;
 pub use world::World;
+
+#[cfg(test)]
+mod tests;

@@ -1,0 +1,5 @@
+pub mod Aboves
+pub mod Moved
+pub mod Regridded
+pub mod Steps
+pub mod Stops

@@ -1,0 +1,66 @@
+-- Leaves of the new grid: they are near old ones, and hold the regridded mesh.
+use Rattle.std.proofs.Common.{◌≡◌, ℕ, ◌+◌, ◌*◌, ◌<◌, ◌⊎◌, Bool, true, false, ℤ, pos, refl, sym, ap, subst, ◌∙◌, arith, inl, inr}
+use Rattle.std.specs.Prelude.{if◌then◌else◌}
+use Rattle.amr_num.specs.declared.BlockAt.{BlockAt}
+use Rattle.amr_num.specs.declared.CellAt.{CellAt}
+use Rattle.mesh_model.specs.Geometry.Blocks.{child_block, parent_block}
+use Rattle.mesh_model.specs.Tree.Order.{IsIn}
+use Rattle.mesh_model.specs.Fields.ArrayPlaces.{HoldsViews}
+use Rattle.mesh_model.specs.Tree.Kinds.{Grid, is_leaf, is_leaf_block, is_split}
+use Rattle.mesh_model.specs.Fields.Plain.{Mesh, on_cells}
+use Rattle.mesh_model.specs.Geometry.Places.{in_block}
+use Rattle.mesh_model.specs.Tree.Regrown.{new_grid, regrown}
+use Rattle.mesh_model.specs.Fields.Regrid.{regrid}
+use Rattle.mesh_model.specs.Tree.ValidGrid.{Valid}
+use Rattle.mesh_model.specs.Fields.Views.{cell_view}
+use Rattle.mesh_model.specs.Fields.Ranks.{WorldState}
+use Rattle.mesh_model.proofs.FieldLemmas.BlockOctants.{block_of_cell}
+use Rattle.mesh_model.proofs.FieldLemmas.CellSums.{view_leaf}
+use Rattle.mesh_model.proofs.FieldLemmas.Closure.{parent_of_child}
+use Rattle.mesh_model.proofs.FieldLemmas.Regrown.{new_source}
+use Rattle.mesh_model.proofs.TreeLemmas.Tiling.{leaf_says}
+use Rattle.mesh_model.proofs.FieldLemmas.ValidGrid.{leaf_whole}
+use Rattle.block_tree.specs.Growing.{MayRegrow}
+use Rattle.block_tree.specs.Numbered.{block_at}
+use Rattle.rank_world.specs.Holding.{IsLeafNode, LeavesHold, numbers_of}
+use Rattle.regrid_move.specs.Near.{AreNear, IsNear, LeavesMoved}
+
+-- each leaf of the new grid is near
+near_leaf : (g : Grid) (refine merge : BlockAt → Bool) → MayRegrow g refine merge → (b : BlockAt) → IsIn b (regrown g refine merge).leaves → IsNear g b
+near_leaf g refine merge may b i =
+    let source = new_source refine merge g b i in
+    let from = source.0 in
+    record {
+      which = elim source.2 [
+        | inl r ↦ inr (inl (subst (λ n. (0 < n.level) × IsIn (parent_block n) g.leaves) r.child (omega arith, subst (λ n. IsIn n g.leaves) (sym (parent_of_child from r.octant)) source.1)))
+        | inr (inl p) ↦ inr (inr (λ q h. may.children b q (subst (λ n. merge n ≡ true) p.parent p.merged) h))
+        | inr (inr k) ↦ inl (subst (λ n. IsIn n g.leaves) k.same source.1)
+      ];
+    }
+
+pub near_after : (g : Grid) (refine merge : BlockAt → Bool) → MayRegrow g refine merge → AreNear g (regrown g refine merge)
+near_after g refine merge may = record {
+  shape = refl;
+  each = λ node leaf. near_leaf g refine merge may (block_at (regrown g refine merge) node) (leaf_says (regrown g refine merge) (block_at (regrown g refine merge) node) leaf.leaf);
+}
+
+-- a leaf of the new grid that holds the old views holds the new mesh's
+pub moved_holds : (m : Mesh) (v : ℕ) (b : BlockAt) (numbers : ℕ → ℕ → ℕ → ℤ) → Valid (new_grid m) → is_leaf_block (new_grid m) b ≡ true →
+    HoldsViews m.grid (m.cells v) b numbers → HoldsViews (new_grid m) ((regrid m).cells v) b numbers
+moved_holds m v b numbers valid leaf moved = record {
+  at = λ i j k hi hj hk.
+      let n = m.grid.shape.n in
+      let c = in_block n b i j k in
+      let here : is_leaf (new_grid m) c ≡ true = ap (is_leaf_block (new_grid m)) (block_of_cell n b i j k hi hj hk) ∙ leaf in
+      let whole : is_split (new_grid m) c ≡ false = leaf_whole (new_grid m) valid c here in
+      let content : on_cells (new_grid m) (cell_view m.grid (m.cells v)) c ≡ cell_view m.grid (m.cells v) c = ap (λ t. if t then cell_view m.grid (m.cells v) c else pos 0) here in
+      moved.at i j k hi hj hk ∙ sym (view_leaf (new_grid m) ((regrid m).cells v) c whole here ∙ content);
+}
+
+-- the new leaves hold the new mesh
+pub new_leaves : (now new : WorldState) (m : Mesh) (v : ℕ) → now.told.grid ≡ m.grid → new.told.grid ≡ new_grid m → Valid (new_grid m) → LeavesMoved now new v (m.cells v) → LeavesHold new v ((regrid m).cells v)
+new_leaves now new m v old_is new_is valid moved node leaf =
+    let b = block_at new.told.grid node in
+    let xs = numbers_of new v node in
+    let here = subst (λ h. HoldsViews h (m.cells v) b xs) old_is (moved node leaf) in
+    subst (λ h. HoldsViews h ((regrid m).cells v) b xs) (sym new_is) (moved_holds m v b xs valid (subst (λ h. is_leaf_block h b ≡ true) new_is leaf.leaf) here)

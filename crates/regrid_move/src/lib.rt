@@ -1,0 +1,12 @@
+//! A world on the tree after refining and merging.
+//!
+//! A second world is made beside the first, each of its leaves gets the old mesh's views, and it is put in place at the
+//! end. So a refusal leaves the first as it was.
+#![tactic(auto)]
+
+mod above;
+mod leaves;
+mod moving;
+mod regridding;
+
+pub use regridding::{RegridStop, regrid};
