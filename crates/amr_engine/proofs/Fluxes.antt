@@ -9,7 +9,7 @@ use Rattle.amr_num.specs.declared.CellAt.{CellAt}
 use Rattle.amr_num.specs.declared.FaceAt.{FaceAt}
 use Rattle.amr_num.specs.declared.SideKind.{SideKind}
 use Rattle.amr_num.specs.declared.SideKind.TheVariants.{Periodic, Outflow, Closed}
-use Rattle.mesh_model.proofs.GeometryLemmas.OnAxes.{on_with, with_own}
+use Rattle.mesh_model.proofs.GeometryLemmas.OnAxes.{on_with, with_own, with_level, with_with}
 use Rattle.mesh_model.specs.declared.geometry.Shape.{Shape}
 use Rattle.mesh_model.specs.Fields.Advect.{above_or, below_or, blown_from, donor, is_closed_at, is_closed_kind, leaf_flux, speed, three}
 use Rattle.mesh_model.specs.Geometry.Coordinates.{after, extent, face_of, high_cell, is_periodic, is_periodic_kind, low_cell, on, side_index, side_kind, with, wrapped}
@@ -56,16 +56,6 @@ own_content s k zero c roots e = at_false (is_split (start_grid s) c) _ _ (none_
 own_content s k (suc l) c roots e = absurd (cc)
 
 -- ---- cells beside a cell
-
-with_level : (a : Axis) (p : ℕ) (c : CellAt) → (with a p c).level ≡ c.level
-with_level X p c = refl
-with_level Y p c = refl
-with_level Z p c = refl
-
-with_twice : (a : Axis) (p q : ℕ) (c : CellAt) → with a p (with a q c) ≡ with a p c
-with_twice X p q c = refl
-with_twice Y p q c = refl
-with_twice Z p q c = refl
 
 below_extent : (s : Shape) (a : Axis) (c : CellAt) → IsCell s c → on a c < extent s a c.level
 below_extent s X c cell = subst (λ l. c.x < extent s X l) (sym cell.level) cell.x
@@ -214,8 +204,8 @@ module _ (s : Shape) (contents speeds : List ℤ) (a : Axis) (c : CellAt) (roots
 
   pub high_flux : IsShape s → flux_in s contents speeds (face_of a (after s a c)) ≡ flux_between 0 (speed (three speeds) a) (content_in s contents c) (content_in s contents (with a (above_or periodic along (suc (on a c))) c)) ((suc (on a c) == along) && is_closed_kind (side_kind s.sides (suc (side_index a))))
   high_flux shape = ap (λ d. flux_in s contents speeds (face_of a d)) face_there ∙ by_donors s contents speeds a (with a position c) c (with a (above_or periodic along (suc (on a c))) c) ((suc (on a c) == along) && is_closed_kind (side_kind s.sides (suc (side_index a)))) roots there_level cell above_is_cell
-      (λ n. with_twice a (below_or periodic (extent s a (with a position c).level) (on a (with a position c))) position c ∙ ap (λ p. with a p c) (ap₂ (below_or periodic) there_extent (on_with a position c) ∙ below_next periodic along (on a c) inside) ∙ with_own a c)
-      (λ n. with_twice a (above_or periodic (extent s a (with a position c).level) (on a (with a position c))) position c ∙ ap (λ p. with a p c) (ap₂ (above_or periodic) there_extent (on_with a position c) ∙ above_next periodic along (on a c) inside))
+      (λ n. with_with a (below_or periodic (extent s a (with a position c).level) (on a (with a position c))) position c ∙ ap (λ p. with a p c) (ap₂ (below_or periodic) there_extent (on_with a position c) ∙ below_next periodic along (on a c) inside) ∙ with_own a c)
+      (λ n. with_with a (above_or periodic (extent s a (with a position c).level) (on a (with a position c))) position c ∙ ap (λ p. with a p c) (ap₂ (above_or periodic) there_extent (on_with a position c) ∙ above_next periodic along (on a c) inside))
       (ap₂ (λ p e. ((p == 0) && is_closed_kind (side_kind s.sides (side_index a))) || ((p == e) && is_closed_kind (side_kind s.sides (suc (side_index a))))) (on_with a position c) there_extent ∙ closed_next (side_kind s.sides (side_index a)) (side_kind s.sides (suc (side_index a))) along (on a c) (shape.both a))
 
 -- what a cell holds after the step: its content less its net outflow

@@ -3,6 +3,7 @@ use Rattle.std.proofs.Common.{◌≡◌, ℕ, ◌^◌, ◌<◌, ◌≤◌, Bool,
 use Rattle.std.proofs.Math.ListN.{get_or-eq_default}
 use Rattle.std.proofs.lemmas.Bool.{and_right, cases_lt, le-ltb, le-leb}
 use Rattle.std.specs.Option.{option_map}
+use Rattle.mesh_model.proofs.FieldLemmas.KeptValid.{off_or}
 use Rattle.amr_num.specs.Numbers.{Within}
 use Rattle.amr_num.specs.declared.BlockAt.{BlockAt}
 use Rattle.amr_num.specs.declared.CellAt.{CellAt}
@@ -138,16 +139,12 @@ in_range_none m range =
 
 -- ---- regrid without variables
 
-zero_or : (on : Bool) {z : ℤ} → z ≡ pos 0 → (if on then z else pos 0) ≡ pos 0
-zero_or true h = h
-zero_or false h = refl
-
 zero_small : (most : ℕ) (z : ℤ) → z ≡ pos 0 → Within most z
 zero_small most z e = subst (λ u. Within most u) (sym e) (omega arith)
 
 -- a variable that there is not has the content 0
 nothing_in : (d : Declared) (g : Grid) (contents : List (List ℤ)) (v : ℕ) (c : CellAt) → length contents ≤ v → on_cells g (content_in d.shape (get_or contents v [])) c ≡ pos 0
-nothing_in d g contents v c far = zero_or (is_leaf g c) (ap (λ xs. get_or xs (place d.shape c) (pos 0)) (get_or-eq_default contents [] far))
+nothing_in d g contents v c far = off_or (is_leaf g c) (ap (λ xs. get_or xs (place d.shape c) (pos 0)) (get_or-eq_default contents [] far))
 
 module _ (d : Declared) (contents : List (List ℤ)) (outs : List ℤ) (old : Hierarchy) (bare : length d.names.cells ≡ 0) (uniform : IsUniform d contents outs) where
   abbrev before : Mesh
@@ -170,13 +167,13 @@ module _ (d : Declared) (contents : List (List ℤ)) (outs : List ℤ) (old : Hi
   no_edge e = refl
 
   new_cell : (v : ℕ) (c : CellAt) → (regrid before).cells v c ≡ pos 0
-  new_cell v c = zero_or (is_leaf (new_grid (marked before)) c) (no_cell_views before.grid (before.cells v) (no_content v) c)
+  new_cell v c = off_or (is_leaf (new_grid (marked before)) c) (no_cell_views before.grid (before.cells v) (no_content v) c)
 
   new_face : (f : FaceAt) → (regrid before).faces f ≡ pos 0
-  new_face f = zero_or (is_canonical before.grid.shape f && is_leaf_face (new_grid (marked before)) f) (no_face_views before.grid before.faces no_face f)
+  new_face f = off_or (is_canonical before.grid.shape f && is_leaf_face (new_grid (marked before)) f) (no_face_views before.grid before.faces no_face f)
 
   new_edge : (e : EdgeAt) → (regrid before).edges e ≡ pos 0
-  new_edge e = zero_or (is_canonical_edge before.grid.shape e && is_leaf_edge (new_grid (marked before)) e) (no_edge_views before.grid before.edges no_edge e)
+  new_edge e = off_or (is_canonical_edge before.grid.shape e && is_leaf_edge (new_grid (marked before)) e) (no_edge_views before.grid before.edges no_edge e)
 
   in_range_after : InRange (regrid before)
   in_range_after = record {

@@ -1,6 +1,6 @@
 -- One step of a cell variable on the cells of level 0.
 use Rattle.std.specs.Prelude.{◌≡◌, ◌⊎◌, ◌^◌, Bool, Some, None, List, [], ◌∷◌, Result, Ok, Err, OnOk, false, true, length, find, ℤ, ◌+ℤ◌, ◌-ℤ◌}
-use Rattle.amr_num.specs.Numbers.{Within}
+use Rattle.amr_num.specs.Numbers.{Within, number_range, outflow_range}
 use Rattle.amr_num.specs.declared.CellAt.{CellAt}
 use Rattle.amr_num.specs.declared.FaceAt.{FaceAt}
 use Rattle.mesh_model.specs.declared.geometry.Shape.{Shape}
@@ -44,7 +44,7 @@ IsAmong b (c ∷ cs) = (c ≡ b) ⊎ IsAmong b cs
 
 -- the cell would hold a number out of range
 abbrev pub is_excess : Shape → List ℤ → List ℤ → CellAt → Bool
-is_excess s contents speeds c = is_above (2 ^ 40) (stepped s contents speeds c)
+is_excess s contents speeds c = is_above number_range (stepped s contents speeds c)
 
 -- none of the cells would, or this is the first of them that would, and the number
 abbrev pub FindsExcess : Shape → List ℤ → List ℤ → List CellAt → Result (Unit {0}) Above → Type 0
@@ -64,7 +64,7 @@ pub record IsStep (s : Shape) (contents numbers : List ℤ) : Type 0 where
   pub roots : IsRoots s
   pub limits : IsShape s
   pub whole : length contents ≡ cell_count s
-  pub small : (c : CellAt) → IsCell s c → Within (2 ^ 40) (content_in s contents c)
+  pub small : (c : CellAt) → IsCell s c → Within number_range (content_in s contents c)
   pub speeds : AreThree (2 ^ 20) numbers
 
 -- the sum of the contents in a list
@@ -78,7 +78,7 @@ IsOut s contents out next after = after ≡ out +ℤ sum_in s contents -ℤ sum_
 -- a step that is tried: it is made, and this has flowed out in all; or the speeds are too great; or a content or what has flowed out is
 -- out of range
 abbrev pub Tries : Shape → List ℤ → List ℤ → ℤ → List ℤ → List ℤ → Result ℤ Hindrance → Type 0
-Tries s contents speeds out old next (Ok after) = (keeps_courant s (three speeds) ≡ true) × Steps s contents speeds (cells_walked (start_grid s)) (Ok tt) old next × IsOut s contents out next after × (is_above (2 ^ 100) after ≡ false)
+Tries s contents speeds out old next (Ok after) = (keeps_courant s (three speeds) ≡ true) × Steps s contents speeds (cells_walked (start_grid s)) (Ok tt) old next × IsOut s contents out next after × (is_above outflow_range after ≡ false)
 Tries s contents speeds out old next (Err TooFast) = keeps_courant s (three speeds) ≡ false
 Tries s contents speeds out old next (Err (Content above)) = (keeps_courant s (three speeds) ≡ true) × FindsExcess s contents speeds (cells_walked (start_grid s)) (Err above)
-Tries s contents speeds out old next (Err (FlowedOut after)) = (keeps_courant s (three speeds) ≡ true) × Steps s contents speeds (cells_walked (start_grid s)) (Ok tt) old next × IsOut s contents out next after × (is_above (2 ^ 100) after ≡ true)
+Tries s contents speeds out old next (Err (FlowedOut after)) = (keeps_courant s (three speeds) ≡ true) × Steps s contents speeds (cells_walked (start_grid s)) (Ok tt) old next × IsOut s contents out next after × (is_above outflow_range after ≡ true)

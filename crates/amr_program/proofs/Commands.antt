@@ -1,4 +1,5 @@
 -- The commands of a run, one after the other.
+use Rattle.std.proofs.lemmas.Bool.{and_parts}
 use Rattle.std.specs.List.{list_all}
 use Rattle.std.proofs.lemmas.List.Elements.{All-cons, All-nil}
 use Rattle.std.proofs.Common.{◌≡◌, ℕ, ◌≤◌, is_none, Bool, true, false, ◌&&◌, if◌then◌else◌, All, zero, suc, ◌+◌, ◌<◌, ◌++◌, ◌⊎◌, List, [], ◌∷◌, Option, Some, None, Result, Ok, Err, IfSome, length, get_or, take, drop, inl, inr, refl, sym, ap, subst, ◌∙◌, arith, append_assoc, append-nil, length-append}
@@ -249,21 +250,17 @@ came_stopped s by.Sink line result a b c f g h stops ends =
 
 -- ---- what a built script is
 
-both : (a b : Bool) → (a && b) ≡ true → (a ≡ true) × (b ≡ true)
-both true b h = (refl, h)
-both false b h = absurd (cc)
-
 pub built_mesh : (s : PlainScript) → is_built s 1 1 ≡ true → is_built_mesh s.declared ≡ true
 unfolding is_built
-built_mesh s h = (both _ _ (both _ _ (both _ _ h).0).0).0
+built_mesh s h = (and_parts _ _ (and_parts _ _ (and_parts _ _ h).0).0).0
 
 pub built_lines : (s : PlainScript) → is_built s 1 1 ≡ true → All (IsBuiltLine s.declared) s.lines
 unfolding is_built
-built_lines s h = each s.lines (both _ _ h).1
+built_lines s h = each s.lines (and_parts _ _ h).1
   where
     each : (lines : List Line) → list_all (λ line. is_built_command s.declared line.command) lines ≡ true → All (IsBuiltLine s.declared) lines
     each [] all = All-nil (IsBuiltLine s.declared)
-    each (line ∷ lines) all = All-cons (IsBuiltLine s.declared) line lines (both _ _ all).0 (each lines (both _ _ all).1)
+    each (line ∷ lines) all = All-cons (IsBuiltLine s.declared) line lines (and_parts _ _ all).0 (each lines (and_parts _ _ all).1)
 
 none_there : {A : Type 0} (o : Option A) → is_none o ≡ true → o ≡ None
 none_there None h = refl
@@ -271,7 +268,7 @@ none_there (Some x) h = absurd (cc)
 
 pub built_names : (d : Declared) → is_built_mesh d ≡ true → (d.names.face ≡ None) × (d.names.edge ≡ None)
 unfolding is_built_mesh
-built_names d h = (none_there d.names.face (both _ _ h).0, none_there d.names.edge (both _ _ h).1)
+built_names d h = (none_there d.names.face (and_parts _ _ h).0, none_there d.names.edge (and_parts _ _ h).1)
 
 pub roots_of : (d : Declared) → InLimits d → IsRoots d.shape
 roots_of d limits =

@@ -18,7 +18,7 @@ use Rattle.mesh_model.specs.Tree.Order.{IsIn, Sorted, key, nodes}
 use Rattle.mesh_model.specs.Tree.Kinds.{kind_of, Grid, is_leaf_block}
 use Rattle.mesh_model.specs.Geometry.Blocks.{children, parent_block, is_same_block}
 use Rattle.std.specs.List.{list_any}
-use Rattle.mesh_model.specs.Tree.Reported.{all_across, number_of, parent_reported, reported, place_in, type_of}
+use Rattle.mesh_model.specs.Tree.Reported.{all_across, node_number, parent_reported, reported, node_place, type_of}
 use Rattle.mesh_model.proofs.TreeLemmas.Tests.{refuted}
 use Rattle.amr_report.specs.Nodes.{node_line, node_begin, with_across, with_kind}
 use Rattle.amr_report.proofs.Joined.{join_words}
@@ -26,7 +26,7 @@ use Rattle.amr_report.proofs.Joined.{join_words}
 -- ---- numbers
 
 -- a block's place in sorted nodes
-place_is : (all : List BlockAt) (b : BlockAt) (i : ℕ) → Sorted all → i < length all → block_in all i ≡ b → place_in b all ≡ Some i
+place_is : (all : List BlockAt) (b : BlockAt) (i : ℕ) → Sorted all → i < length all → block_in all i ≡ b → node_place b all ≡ Some i
 place_is [] b i sorted h e = absurd (omega arith)
 place_is (c ∷ cs) b zero sorted h e = rw (same_shows c b e) refl
 place_is (c ∷ cs) b (suc i) sorted h e =
@@ -34,20 +34,20 @@ place_is (c ∷ cs) b (suc i) sorted h e =
     let other : is_same_block c b ≡ false = refuted _ (λ t. let k = ap key (same_says c b t) in omega arith) in
     rw (other, place_is cs b i sorted.1 (omega arith) e) refl
 
-no_place : (all : List BlockAt) (b : BlockAt) → (IsIn b all → ⊥) → place_in b all ≡ None
+no_place : (all : List BlockAt) (b : BlockAt) → (IsIn b all → ⊥) → node_place b all ≡ None
 no_place [] b out = refl
 no_place (c ∷ cs) b out =
     let other : is_same_block c b ≡ false = refuted _ (λ t. out (inl (same_says c b t))) in
     rw (other, no_place cs b (λ i. out (inr i))) refl
 
-pub number_is : (tree : Tree) (b : BlockAt) (node : ℕ) → IsNumberOf (grid_of tree) b node → number_of (grid_of tree) b ≡ Some node
+pub number_is : (tree : Tree) (b : BlockAt) (node : ℕ) → IsNumberOf (grid_of tree) b node → node_number (grid_of tree) b ≡ Some node
 unfolding block_at
 number_is tree b node h =
     let g = grid_of tree in
     let whole = known tree in
     place_is (nodes g.leaves) b node (nodes_sorted g whole.valid whole.order) h.there h.block
 
-pub no_number : (tree : Tree) (b : BlockAt) → (IsIn b (nodes (grid_of tree).leaves) → ⊥) → number_of (grid_of tree) b ≡ None
+pub no_number : (tree : Tree) (b : BlockAt) → (IsIn b (nodes (grid_of tree).leaves) → ⊥) → node_number (grid_of tree) b ≡ None
 no_number tree b out = no_place (nodes (grid_of tree).leaves) b out
 
 pub parent_is : (tree : Tree) (b : BlockAt) (parent : ℕ) → 0 < b.level → IsNumberOf (grid_of tree) (parent_block b) parent → parent_reported (grid_of tree) b ≡ pos parent

@@ -8,10 +8,10 @@ use Rattle.std.specs.List.{list_any}
 use Rattle.amr_num.specs.declared.BlockAt.{BlockAt}
 use Rattle.mesh_model.specs.declared.geometry.Shape.{Shape}
 use Rattle.mesh_model.specs.Geometry.Limits.{IsShape}
-use Rattle.mesh_model.specs.Tree.Kinds.{Grid, lies_in}
+use Rattle.mesh_model.specs.Tree.Kinds.{Grid}
+use Rattle.mesh_model.specs.Geometry.Blocks.{lies_in, InDomain}
 use Rattle.mesh_model.specs.Tree.Order.{Sorted, nodes}
 use Rattle.mesh_model.specs.Tree.ValidGrid.{Tiles}
-use Rattle.mesh_model.specs.Geometry.Blocks.{InDomain}
 use Rattle.mesh_model.proofs.TreeLemmas.Tests.{found, there}
 use Rattle.mesh_model.proofs.TreeLemmas.Tiling.{lies_says, lies_shows}
 use Rattle.block_tree.specs.declared.tree.Tree.{Tree}

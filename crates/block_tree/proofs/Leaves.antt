@@ -1,15 +1,15 @@
 -- The leaves among the nodes.
 use Rattle.std.proofs.Common.{◌≡◌, ℕ, zero, suc, ◌<◌, Bool, true, false, not, ◌&&◌, nat_lt, refl, sym, ap, ap₂, ◌∙◌, arith, inl, inr, subst, List, [], ◌∷◌, ◌++◌, filter, lt-ltb, ltb-true}
-use Rattle.std.proofs.lemmas.Bool.{cases_Bool, cases_lt}
+use Rattle.std.proofs.lemmas.Bool.{cases_Bool, cases_lt, and_parts}
 use Rattle.std.proofs.lemmas.List.Elements.{filter-append}
 use Rattle.amr_num.specs.declared.BlockAt.{BlockAt}
-use Rattle.mesh_model.specs.Geometry.Blocks.{child_block, parent_block, is_first_child, LiesIn, InDomain}
+use Rattle.mesh_model.specs.Geometry.Blocks.{child_block, parent_block, is_first_child, LiesIn, InDomain, lies_in}
 use Rattle.mesh_model.specs.Tree.Order.{IsIn, begun_at, nodes}
-use Rattle.mesh_model.specs.Tree.Kinds.{Grid, lies_in, is_leaf_block, is_split_block}
+use Rattle.mesh_model.specs.Tree.Kinds.{Grid, is_leaf_block, is_split_block}
 use Rattle.mesh_model.specs.Tree.ValidGrid.{Valid}
-use Rattle.mesh_model.proofs.TreeLemmas.Nodes.{begun_in, node_in, in_node}
+use Rattle.mesh_model.proofs.TreeLemmas.Nodes.{begun_in, node_in, in_node, begun_first, begun_other}
 use Rattle.mesh_model.proofs.TreeLemmas.Tests.{refuted, found, there, and_both}
-use Rattle.mesh_model.proofs.TreeLemmas.Tiling.{both_true, lies_says, lies_shows, lies_trans, lies_refl, same_level, finest, finest_in, child_in, child_of_split, domain_up, leaf_says, leaf_shows, split_says, split_shows}
+use Rattle.mesh_model.proofs.TreeLemmas.Tiling.{lies_says, lies_shows, lies_trans, lies_refl, same_level, finest, finest_in, child_in, child_of_split, domain_up, leaf_says, leaf_shows, split_says, split_shows}
 use Rattle.mesh_model.proofs.TreeLemmas.Regrown.{is_parent}
 use Rattle.mesh_model.proofs.TreeLemmas.Levels.{is_child}
 use Rattle.block_tree.specs.Listed.{is_above, lowest}
@@ -32,14 +32,6 @@ above_first l b t = rw (t, begun_above) refl
 pub above_other : (l : ℕ) (b : BlockAt) → is_first_child b ≡ false → begun_above (suc l) b ≡ []
 unfolding begun_above
 above_other l b f = rw (f, begun_above) refl
-
-pub begun_first : (l : ℕ) (b : BlockAt) → is_first_child b ≡ true → begun_at (suc l) b ≡ begun_at l (parent_block b) ++ b ∷ []
-unfolding begun_at
-begun_first l b t = rw (t, begun_at) refl
-
-pub begun_other : (l : ℕ) (b : BlockAt) → is_first_child b ≡ false → begun_at (suc l) b ≡ b ∷ []
-unfolding begun_at
-begun_other l b f = rw (f, begun_at) refl
 
 pub begun_parts : (l : ℕ) (b : BlockAt) → begun_at l b ≡ begun_above l b ++ b ∷ []
 unfolding begun_at begun_above
@@ -92,7 +84,7 @@ module _ (g : Grid) (valid : Valid g) where
   unfolding is_above
   above_none leaf i = refuted _ (λ t.
       let n = found (λ (u : BlockAt). nat_lt leaf.level u.level && lies_in u leaf) (nodes g.leaves) t in
-      let both = both_true (nat_lt leaf.level n.0.level) (lies_in n.0 leaf) n.2 in
+      let both = and_parts (nat_lt leaf.level n.0.level) (lies_in n.0 leaf) n.2 in
       let finer = ltb-true _ _ both.0 in
       let under = node_in g valid n.0 n.1 in
       let deep = under.2.level in
@@ -129,6 +121,9 @@ module _ (g : Grid) (valid : Valid g) where
             let leaf = leaf_shows g b (subst (λ u. IsIn u g.leaves) same under.1) in
             cc
       ]
+
+  pub split_leaf : (b : BlockAt) → is_split_block g b ≡ true → is_leaf_block g b ≡ false
+  split_leaf b t = let under = split_says g b t in leaf_whole under.0 b under.1 under.3 under.2
 
   -- the children of a node that is no leaf are nodes, and so is the parent of a node
   pub child_node : (b : BlockAt) (q : ℕ) → is_split_block g b ≡ true → IsIn (child_block b q) (nodes g.leaves)

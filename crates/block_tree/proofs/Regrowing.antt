@@ -4,6 +4,7 @@ use Rattle.std.specs.Prelude.{flat_map, nat_lt}
 use Rattle.std.proofs.lemmas.Bool.{cases_Bool}
 use Rattle.std.proofs.lemmas.List.{append-nil}
 use Rattle.std.proofs.lemmas.Grind.{flat_map-append}
+use Rattle.mesh_model.proofs.TreeLemmas.Nodes.{begun_first, begun_other}
 use Rattle.amr_num.specs.declared.BlockAt.{BlockAt}
 use Rattle.mesh_model.specs.Geometry.Blocks.{child_block, parent_block, children, is_first_child, LiesIn}
 use Rattle.mesh_model.specs.Tree.Order.{IsIn, Sorted, begun_at, nodes}
@@ -18,7 +19,7 @@ use Rattle.mesh_model.proofs.TreeLemmas.Sorting.{regrown_sorted}
 use Rattle.mesh_model.proofs.TreeLemmas.Tests.{refuted, and_left, and_right, and_both, all_three}
 use Rattle.block_tree.specs.Growing.{MayRegrow}
 use Rattle.block_tree.specs.Places.{is_taken_back, nodes_for}
-use Rattle.block_tree.proofs.Leaves.{begun_above, above_first, above_other, begun_first, begun_other, begun_parts, above_in, leaf_alone}
+use Rattle.block_tree.proofs.Leaves.{begun_above, above_first, above_other, begun_parts, above_in, leaf_alone}
 
 -- ---- lists
 

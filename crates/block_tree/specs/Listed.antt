@@ -3,7 +3,8 @@ use Rattle.std.specs.Prelude.{◌≡◌, Bool, not, ◌&&◌, nat_lt, List, filt
 use Rattle.std.specs.List.{list_any}
 use Rattle.amr_num.specs.declared.BlockAt.{BlockAt}
 use Rattle.mesh_model.specs.declared.geometry.Shape.{Shape}
-use Rattle.mesh_model.specs.Tree.Kinds.{Grid, lies_in}
+use Rattle.mesh_model.specs.Tree.Kinds.{Grid}
+use Rattle.mesh_model.specs.Geometry.Blocks.{lies_in}
 use Rattle.mesh_model.specs.Tree.Order.{Sorted, nodes}
 use Rattle.mesh_model.specs.Tree.ValidGrid.{Valid, FewNodes}
 

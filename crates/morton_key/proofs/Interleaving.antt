@@ -1,12 +1,8 @@
 -- Interleaved numbers by their bits set apart, and back from them.
 use Rattle.std.proofs.Common.{◌≡◌, ℕ, zero, suc, ◌+◌, ◌*◌, ◌/◌, ◌%◌, ◌^◌, ◌<◌, ap, ◌∙◌, refl, arith}
 use Rattle.amr_num.specs.MortonKey.{interleave}
-use Rattle.mesh_model.proofs.TreeLemmas.Morton.{step}
+use Rattle.mesh_model.proofs.TreeLemmas.Morton.{step, none}
 use Rattle.morton_key.specs.Bits.{respaced}
-
-none : (x y z : ℕ) → interleave zero x y z ≡ 0
-unfolding interleave
-none x y z = refl
 
 pub by_axes : (k x y z : ℕ) → interleave k x y z ≡ respaced 1 3 k x + 2 * respaced 1 3 k y + 4 * respaced 1 3 k z
 unfolding respaced

@@ -8,7 +8,7 @@ use Rattle.amr_num.specs.declared.BlockAt.{BlockAt}
 use Rattle.amr_num.specs.MortonKey.{interleave, low_end, morton, key}
 use Rattle.mesh_model.specs.Geometry.Blocks.{child_block, LiesIn}
 use Rattle.mesh_model.proofs.TreeLemmas.Morton.{shifted, digits}
-use Rattle.mesh_model.proofs.TreeLemmas.Sorting.{span, span_pos, morton_child, next_stretch}
+use Rattle.mesh_model.proofs.TreeLemmas.Sorting.{span, span_pos, morton_child, next_stretch, morton_of}
 use Rattle.morton_key.specs.Bits.{respaced}
 use Rattle.morton_key.specs.Keyed.{HasKey}
 use Rattle.morton_key.proofs.Interleaving.{gather_x, gather_y, gather_z}
@@ -94,10 +94,6 @@ begins_in l x k h top =
     ∙ sym (div-div-eq-div-mul (x * 2 ^ (10 - l)) (2 ^ (10 - l)) (2 ^ (l - k)))
     ∙ ap (λ u. u / 2 ^ (l - k)) (mul-div_cancel x (pow_pos (10 - l)))
 
-own_place : (b : BlockAt) → b.level ≤ 10 → morton b ≡ span b.level * interleave (b.level + 3) b.x b.y b.z
-unfolding morton low_end span
-own_place b h = shifted (10 - b.level) (b.level + 3) 13 b.x b.y b.z (omega arith)
-
 run_of : (b c : BlockAt) → c.level ≤ 10 → LiesIn c b → morton c / span b.level ≡ interleave (b.level + 3) b.x b.y b.z
 unfolding morton span
 run_of b c top h =
@@ -119,7 +115,7 @@ within n s r h e =
 inside : (b c : BlockAt) → c.level ≤ 10 → LiesIn c b → (morton b ≤ morton c) × (morton c < morton b + span b.level)
 inside b c top h =
     let le = h.level in
-    let at = own_place b (omega arith) in
+    let at = morton_of b (omega arith) in
     let both = within (morton c) (span b.level) (interleave (b.level + 3) b.x b.y b.z) (span_pos b.level) (run_of b c top h) in
     let first = both.0 in
     let last = both.1 in

@@ -1,7 +1,7 @@
 -- Worlds whose nodes hold the views of a field.
 use Rattle.std.specs.Prelude.{◌≡◌, ℕ, ◌+◌, ◌<◌, ◌^◌, true, List, length, ℤ, None}
 use Rattle.amr_num.specs.declared.CellAt.{CellAt}
-use Rattle.amr_num.specs.Numbers.{Within}
+use Rattle.amr_num.specs.Numbers.{Within, number_range}
 use Rattle.mesh_model.specs.declared.fields.values.Var.TheVariants.{Cell}
 use Rattle.mesh_model.specs.Fields.Arrays.{array_in}
 use Rattle.mesh_model.specs.Fields.Octants.{cells_of}
@@ -35,7 +35,7 @@ NodesHold w v content = (node : ℕ) → IsNode w.told.grid node → NodeHolds w
 
 -- the numbers of a leaf's cells are at most 2^40 in absolute value
 pub record LeafInRange (w : WorldState) (v node : ℕ) : Type 0 where
-  pub cells : (i j k : ℕ) → let s = w.told.grid.shape in i < s.n → j < s.n → k < s.n → Within (2 ^ 40) (numbers_of w v node (s.g + i) (s.g + j) (s.g + k))
+  pub cells : (i j k : ℕ) → let s = w.told.grid.shape in i < s.n → j < s.n → k < s.n → Within number_range (numbers_of w v node (s.g + i) (s.g + j) (s.g + k))
 
 abbrev pub LeavesInRange : WorldState → Type 0
 LeavesInRange w = (v node : ℕ) → v < w.told.counts.cells → IsLeafNode w.told.grid node → LeafInRange w v node

@@ -1,6 +1,6 @@
 -- New leaves that hold the old grid's views.
 use Rattle.mesh_model.proofs.TreeLemmas.Tiling.{leaf_shows}
-use Rattle.mesh_model.proofs.FieldLemmas.Closure.{parent_of_child}
+use Rattle.mesh_model.proofs.TreeLemmas.Closure.{parent_of_child}
 use Rattle.mesh_model.specs.Tree.Order.{IsIn, nodes}
 use Rattle.block_tree.proofs.Leaves.{split_leaf, leaf_node, parent_node}
 use Rattle.regrid_move.specs.Near.{MayMove, IsNear}
@@ -11,7 +11,7 @@ use Rattle.amr_num.specs.declared.BlockAt.{BlockAt}
 use Rattle.amr_num.specs.declared.CellAt.{CellAt}
 use Rattle.mesh_model.specs.declared.geometry.Shape.{Shape}
 use Rattle.mesh_model.specs.Geometry.Blocks.{child_block, parent_block}
-use Rattle.mesh_model.specs.Fields.Octants.{IsRestricted, IsSplit, OctantHolds, cells_of, AreFew}
+use Rattle.mesh_model.specs.Fields.Octants.{IsRestricted, IsSplit, OctantHolds, cells_of, SumsAreSmall}
 use Rattle.mesh_model.specs.Fields.ArrayPlaces.{HoldsViews, cell_extents, number_at}
 use Rattle.mesh_model.specs.Tree.Kinds.{Grid, is_leaf_block, is_split_block}
 use Rattle.mesh_model.specs.Fields.Ranks.{IsSized, WorldState, IsFit, OnlyOf, Told}
@@ -63,9 +63,9 @@ may_again n g old a b v node var may only fit = record {
 }
 
 -- sums that are small enough, in the sizes of the world's blocks
-pub few_sized : (n e : ℕ) (s : Shape) (child : List ℤ) → IsSized n e s → AreFew s.n s.g (number_at (cell_extents s.n s.g) child) → AreFew n e (number_at (cell_extents n e) child)
+pub few_sized : (n e : ℕ) (s : Shape) (child : List ℤ) → IsSized n e s → SumsAreSmall s.n s.g (number_at (cell_extents s.n s.g) child) → SumsAreSmall n e (number_at (cell_extents n e) child)
 few_sized n e s child sized few =
-    subst (λ m. AreFew m e (number_at (cell_extents m e) child)) sized.cells (subst (λ m. AreFew s.n m (number_at (cell_extents s.n m) child)) sized.guards few)
+    subst (λ m. SumsAreSmall m e (number_at (cell_extents m e) child)) sized.cells (subst (λ m. SumsAreSmall s.n m (number_at (cell_extents s.n m) child)) sized.guards few)
 
 -- a child that is listed among the leaves is a leaf node
 pub leaf_node_of : (g : Grid) (b : BlockAt) (node : ℕ) → IsNumberOf g b node → IsIn b g.leaves → IsLeafNode g node

@@ -7,7 +7,7 @@ use Rattle.mesh_model.specs.Geometry.Blocks.{child_block, parent_block}
 use Rattle.mesh_model.specs.Tree.Order.{IsIn}
 use Rattle.mesh_model.specs.Fields.ArrayPlaces.{HoldsViews}
 use Rattle.mesh_model.specs.Tree.Kinds.{Grid, is_leaf, is_leaf_block, is_split}
-use Rattle.mesh_model.specs.Fields.Plain.{Mesh, on_cells}
+use Rattle.mesh_model.specs.Fields.Plain.{marked, Mesh, on_cells}
 use Rattle.mesh_model.specs.Geometry.Places.{in_block}
 use Rattle.mesh_model.specs.Tree.Regrown.{new_grid, regrown}
 use Rattle.mesh_model.specs.Fields.Regrid.{regrid}
@@ -16,8 +16,8 @@ use Rattle.mesh_model.specs.Fields.Views.{cell_view}
 use Rattle.mesh_model.specs.Fields.Ranks.{WorldState}
 use Rattle.mesh_model.proofs.FieldLemmas.BlockOctants.{block_of_cell}
 use Rattle.mesh_model.proofs.FieldLemmas.CellSums.{view_leaf}
-use Rattle.mesh_model.proofs.FieldLemmas.Closure.{parent_of_child}
-use Rattle.mesh_model.proofs.FieldLemmas.Regrown.{new_source}
+use Rattle.mesh_model.proofs.TreeLemmas.Closure.{parent_of_child}
+use Rattle.mesh_model.proofs.TreeLemmas.Regrown.{new_source}
 use Rattle.mesh_model.proofs.TreeLemmas.Tiling.{leaf_says}
 use Rattle.mesh_model.proofs.FieldLemmas.ValidGrid.{leaf_whole}
 use Rattle.block_tree.specs.Growing.{MayRegrow}
@@ -45,20 +45,20 @@ near_after g refine merge may = record {
 }
 
 -- a leaf of the new grid that holds the old views holds the new mesh's
-pub moved_holds : (m : Mesh) (v : ℕ) (b : BlockAt) (numbers : ℕ → ℕ → ℕ → ℤ) → Valid (new_grid m) → is_leaf_block (new_grid m) b ≡ true →
-    HoldsViews m.grid (m.cells v) b numbers → HoldsViews (new_grid m) ((regrid m).cells v) b numbers
+pub moved_holds : (m : Mesh) (v : ℕ) (b : BlockAt) (numbers : ℕ → ℕ → ℕ → ℤ) → Valid (new_grid (marked m)) → is_leaf_block (new_grid (marked m)) b ≡ true →
+    HoldsViews m.grid (m.cells v) b numbers → HoldsViews (new_grid (marked m)) ((regrid m).cells v) b numbers
 moved_holds m v b numbers valid leaf moved = record {
   at = λ i j k hi hj hk.
       let n = m.grid.shape.n in
       let c = in_block n b i j k in
-      let here : is_leaf (new_grid m) c ≡ true = ap (is_leaf_block (new_grid m)) (block_of_cell n b i j k hi hj hk) ∙ leaf in
-      let whole : is_split (new_grid m) c ≡ false = leaf_whole (new_grid m) valid c here in
-      let content : on_cells (new_grid m) (cell_view m.grid (m.cells v)) c ≡ cell_view m.grid (m.cells v) c = ap (λ t. if t then cell_view m.grid (m.cells v) c else pos 0) here in
-      moved.at i j k hi hj hk ∙ sym (view_leaf (new_grid m) ((regrid m).cells v) c whole here ∙ content);
+      let here : is_leaf (new_grid (marked m)) c ≡ true = ap (is_leaf_block (new_grid (marked m))) (block_of_cell n b i j k hi hj hk) ∙ leaf in
+      let whole : is_split (new_grid (marked m)) c ≡ false = leaf_whole (new_grid (marked m)) valid c here in
+      let content : on_cells (new_grid (marked m)) (cell_view m.grid (m.cells v)) c ≡ cell_view m.grid (m.cells v) c = ap (λ t. if t then cell_view m.grid (m.cells v) c else pos 0) here in
+      moved.at i j k hi hj hk ∙ sym (view_leaf (new_grid (marked m)) ((regrid m).cells v) c whole here ∙ content);
 }
 
 -- the new leaves hold the new mesh
-pub new_leaves : (now new : WorldState) (m : Mesh) (v : ℕ) → now.told.grid ≡ m.grid → new.told.grid ≡ new_grid m → Valid (new_grid m) → LeavesMoved now new v (m.cells v) → LeavesHold new v ((regrid m).cells v)
+pub new_leaves : (now new : WorldState) (m : Mesh) (v : ℕ) → now.told.grid ≡ m.grid → new.told.grid ≡ new_grid (marked m) → Valid (new_grid (marked m)) → LeavesMoved now new v (m.cells v) → LeavesHold new v ((regrid m).cells v)
 new_leaves now new m v old_is new_is valid moved node leaf =
     let b = block_at new.told.grid node in
     let xs = numbers_of new v node in

@@ -11,7 +11,7 @@ use Rattle.mesh_model.specs.Fields.ArrayPlaces.{HoldsViews, cell_extents, number
 use Rattle.mesh_model.specs.Tree.Kinds.{Grid}
 use Rattle.mesh_model.specs.Geometry.Places.{in_block}
 use Rattle.mesh_model.specs.Fields.RangeWalk.{is_above}
-use Rattle.mesh_model.specs.Tree.ValidGrid.{InDomain}
+use Rattle.mesh_model.specs.Geometry.Blocks.{InDomain}
 use Rattle.mesh_model.specs.Fields.Views.{cell_view}
 use Rattle.mesh_model.specs.declared.geometry.Shape.{Shape}
 use Rattle.mesh_model.specs.declared.fields.values.Group.TheVariants as groups

@@ -4,7 +4,7 @@ use Rattle.std.specs.Prelude.{replicate}
 use Rattle.std.proofs.lemmas.Bool.{cases_lt}
 use Rattle.std.proofs.lemmas.List.{get_or-replicate, get_or_past, length-replicate}
 use Rattle.amr_num.specs.Numbers.{Within, at}
-use Rattle.mesh_model.specs.Fields.Octants.{AreFew}
+use Rattle.mesh_model.specs.Fields.Octants.{SumsAreSmall}
 use Rattle.mesh_model.specs.Fields.ArrayPlaces.{cell_extents, number_at, place_in}
 use Rattle.mesh_model.proofs.FieldLemmas.BlockOctants.{small_sums}
 
@@ -14,5 +14,5 @@ small_five i = elim (cases_lt i 216) [
   | inr past ↦ subst (λ v. Within (2 ^ 40) v) (sym (get_or_past (replicate 216 (pos 5)) i (pos 0) (subst (λ n. n ≤ i) (sym (length-replicate 216 (pos 5))) past))) (omega arith)
 ]
 
-pub few_fives : AreFew 4 1 (number_at (cell_extents 4 1) (replicate 216 (pos 5)))
+pub few_fives : SumsAreSmall 4 1 (number_at (cell_extents 4 1) (replicate 216 (pos 5)))
 few_fives = small_sums 4 1 (number_at (cell_extents 4 1) (replicate 216 (pos 5))) (inl refl) (λ i j k hi hj hk. small_five (place_in (cell_extents 4 1) (1 + i) (1 + j) (1 + k)))

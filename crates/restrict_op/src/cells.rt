@@ -1,7 +1,7 @@
 //! Sums of cells.
 
 ghost use Rattle.amr_num.specs.Numbers.{Within, at};
-ghost use Rattle.mesh_model.specs.Fields.Octants.{AreFew, IsRestricted, half_at, octant_box, summed};
+ghost use Rattle.mesh_model.specs.Fields.Octants.{SumsAreSmall, IsRestricted, half_at, octant_box, summed};
 ghost use Rattle.mesh_model.specs.Fields.ArrayPlaces.{IsRowWritten, IsSize, cell_extents, number_at, row_of, size_of};
 ghost use Rattle.restrict_op.specs.Rows.{eight_in, pair_in};
 ghost use Rattle.std.specs.Prelude.{◌≡◌, ℕ, ◌+◌, ◌*◌, ◌/◌, ◌%◌, ◌^◌, ◌<◌, ◌≤◌, ◌+ℤ◌, length};
@@ -63,7 +63,7 @@ fn restrict_row(n: usize, g: usize, q: usize, child: &[i64], parent: &mut [i64],
     requires octant { q < 8 }
     requires child { length child.now ≡ size_of (cell_extents n g) }
     requires parent { length parent.old ≡ size_of (cell_extents n g) }
-    requires few { AreFew n g (number_at (cell_extents n g) child.now) }
+    requires few { SumsAreSmall n g (number_at (cell_extents n g) child.now) }
     requires row { m < n / 2 * (n / 2) }
     ensures { let e = cell_extents n g in let h = n / 2 in
         IsRowWritten (row_of e (octant_box n g q) m) h (λ t. summed g (number_at e child.now) t (m % h) (m / h)) parent.old parent.new }
@@ -93,7 +93,7 @@ fn restrict(n: usize, g: usize, q: usize, child: &[i64], parent: &mut [i64])
     requires octant { q < 8 }
     requires child { length child.now ≡ size_of (cell_extents n g) }
     requires parent { length parent.old ≡ size_of (cell_extents n g) }
-    requires few { AreFew n g (number_at (cell_extents n g) child.now) }
+    requires few { SumsAreSmall n g (number_at (cell_extents n g) child.now) }
     ensures { IsRestricted n g q child.now parent.old parent.new }
 {
     let half = n / 2;
@@ -113,7 +113,7 @@ pub fn restrict_cells<const N: usize, const G: usize>(
     requires octant { octant < 8 }
     requires child { length child.now ≡ size_of (cell_extents N G) }
     requires parent { length parent.old ≡ size_of (cell_extents N G) }
-    requires few { AreFew N G (number_at (cell_extents N G) child.now) }
+    requires few { SumsAreSmall N G (number_at (cell_extents N G) child.now) }
     ensures { IsRestricted N G octant child.now parent.old parent.new }
 {
     restrict(N, G, octant as usize, child, parent);

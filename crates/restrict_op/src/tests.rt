@@ -1,6 +1,6 @@
 //! Sums of cells that are worked by hand.
 
-ghost use Rattle.mesh_model.specs.Fields.Octants.{AreFew};
+ghost use Rattle.mesh_model.specs.Fields.Octants.{SumsAreSmall};
 ghost use Rattle.mesh_model.specs.Fields.ArrayPlaces.{cell_extents, number_at};
 ghost use Rattle.std.specs.Prelude.{◌≡◌, IfOk, length};
 
@@ -12,7 +12,7 @@ use std::alloc::Global;
 /// A block all of whose numbers are 5.
 fn fives(alloc: Global) -> Result<Vec<i64>, OutOfMemory>
     ensures size { IfOk result (λ cells. length cells.items ≡ 216) }
-    ensures few { IfOk result (λ cells. AreFew 4 1 (number_at (cell_extents 4 1) cells.items)) }
+    ensures few { IfOk result (λ cells. SumsAreSmall 4 1 (number_at (cell_extents 4 1) cells.items)) }
 {
     match vec![in alloc; 5; 216] {
         Ok(cells) => Ok(cells),

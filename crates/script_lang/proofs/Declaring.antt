@@ -1,4 +1,5 @@
 -- What declarations leave within the limits.
+use Rattle.std.proofs.lemmas.Bool.{and_parts}
 use Rattle.std.proofs.Common.{◌≡◌, ◌≢◌, ℕ, zero, suc, ◌<◌, ◌≤◌, ◌⊎◌, Bool, true, false, not, ◌&&◌, ◌||◌, ◌==◌, nat_lt, nat_le, if◌then◌else◌, List, [], ◌∷◌, ◌++◌, Option, Some, None, Result, Ok, Err, IfSome, is_some, get_or, length, bytes_eq, All, refl, sym, subst, arith, length-append}
 use Rattle.std.proofs.lemmas.Bool.Decides.{nat_tests}
 use Rattle.std.proofs.lemmas.List.Quantifiers.{all_pairs_push}
@@ -23,7 +24,7 @@ use Rattle.mesh_model.specs.Language.Grammar.{declares}
 use Rattle.mesh_model.specs.Fields.VariableNames.{VariableNames}
 use Rattle.mesh_model.specs.Language.Words.{word, is_name}
 use Rattle.script_lang.proofs.Ranges.{count_range, one_says}
-use Rattle.script_lang.proofs.Steps.{bound, passed, both, same_value}
+use Rattle.script_lang.proofs.Steps.{bound, passed, same_value}
 
 -- SHAPES
 
@@ -85,8 +86,8 @@ bounds_within s t ws old h =
     let e = bound (side (word ws 5)) _ t d.2 in
     let f = bound (side (word ws 6)) _ t e.2 in
     let k = passed _ Unpaired (record s { sides = a.0 ∷ b.0 ∷ c.0 ∷ d.0 ∷ e.0 ∷ f.0 ∷ [] }) t f.2 in
-    let xy = both (are_paired a.0 b.0 && are_paired c.0 d.0) (are_paired e.0 f.0) k.0 in
-    let x = both (are_paired a.0 b.0) (are_paired c.0 d.0) xy.0 in
+    let xy = and_parts (are_paired a.0 b.0 && are_paired c.0 d.0) (are_paired e.0 f.0) k.0 in
+    let x = and_parts (are_paired a.0 b.0) (are_paired c.0 d.0) xy.0 in
     subst IsShape k.1 (record {
       rx = old.rx;
       ry = old.ry;

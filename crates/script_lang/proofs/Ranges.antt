@@ -1,4 +1,5 @@
 -- What the words of a command give.
+use Rattle.std.proofs.lemmas.Bool.{and_parts}
 use Rattle.std.proofs.Common.{◌≡◌, ℕ, zero, suc, ◌+◌, ◌<◌, ◌≤◌, Bool, true, false, ◌&&◌, ◌==◌, nat_lt, nat_le, List, [], ◌∷◌, Option, Some, None, Ok, ℤ, pos, negsuc, unsigned_abs, int_le, IsSome, if◌then◌else◌, slice_index, length, bytes_eq, All, refl, subst, arith}
 use Rattle.std.proofs.lemmas.Bool.Decides.{nat_tests}
 use Rattle.std.proofs.lemmas.List.Quantifiers.{position-Some}
@@ -17,10 +18,10 @@ use Rattle.mesh_model.specs.Geometry.Coordinates.{axis_index, extent}
 use Rattle.mesh_model.specs.Language.Forms.{number, numbers, count, one_of, level, block, cell_variable, cell_named, is_named, variable, variable_named, found}
 use Rattle.mesh_model.specs.Fields.VariableNames.{VariableNames}
 use Rattle.mesh_model.specs.Language.Words.{word, number_of}
-use Rattle.script_lang.proofs.Steps.{bound, passed, both, same_value, found_says}
+use Rattle.script_lang.proofs.Steps.{bound, passed, same_value, found_says}
 
 in_range : (low high : ℕ) (z : ℤ) → (int_le (pos low) z && int_le z (pos high)) ≡ true → (low ≤ unsigned_abs z) × (unsigned_abs z ≤ high)
-in_range low high (pos n) h = let b = both (nat_le low n) (nat_le n high) h in (grind (arith, nat_tests), grind (arith, nat_tests))
+in_range low high (pos n) h = let b = and_parts (nat_le low n) (nat_le n high) h in (grind (arith, nat_tests), grind (arith, nat_tests))
 in_range low high (negsuc n) h = absurd (cc)
 
 pub count_range : (low high : ℕ) (w : List ℕ) (n : ℕ) → count low high w ≡ Ok n → (low ≤ n) × (n ≤ high)
@@ -93,7 +94,7 @@ place_says ws i b h =
     subst IsPlace (same_value (record { level = l.0; x = x.0; y = y.0; z = z.0 }) b z.2) (record { level = (count_range 0 10 (word ws i) l.0 l.1).1; x = (count_range 0 65536 (word ws (i + 1)) x.0 x.1).1; y = (count_range 0 65536 (word ws (i + 2)) y.0 y.1).1; z = (count_range 0 65536 (word ws (i + 3)) z.0 z.1).1 })
 
 between_says : (low high : List ℕ) (i e : ℕ) → is_between low high i e ≡ true → (slice_index low i < slice_index high i) × (slice_index high i ≤ e)
-between_says low high i e h = let b = both (nat_lt (slice_index low i) (slice_index high i)) (nat_le (slice_index high i) e) h in (grind (arith, nat_tests), grind (arith, nat_tests))
+between_says low high i e h = let b = and_parts (nat_lt (slice_index low i) (slice_index high i)) (nat_le (slice_index high i) e) h in (grind (arith, nat_tests), grind (arith, nat_tests))
 
 on_axis : (s : Shape) (l : ℕ) (low high : List ℕ) → is_between low high 0 (extent s X l) ≡ true → is_between low high 1 (extent s Y l) ≡ true → is_between low high 2 (extent s Z l) ≡ true → (a : Axis) → (slice_index low (axis_index a) < slice_index high (axis_index a)) × (slice_index high (axis_index a) ≤ extent s a l)
 on_axis s l low high x y z X = between_says low high 0 (extent s X l) x
@@ -103,6 +104,6 @@ on_axis s l low high x y z Z = between_says low high 2 (extent s Z l) z
 pub box_says : (s : Shape) (l : ℕ) (low high : List ℕ) → l ≤ 10 → is_box s l low high ≡ true → IsBox s l low high
 unfolding is_box
 box_says s l low high level h =
-    let xy = both (is_between low high 0 (extent s X l) && is_between low high 1 (extent s Y l)) (is_between low high 2 (extent s Z l)) h in
-    let y = both (is_between low high 0 (extent s X l)) (is_between low high 1 (extent s Y l)) xy.0 in
+    let xy = and_parts (is_between low high 0 (extent s X l) && is_between low high 1 (extent s Y l)) (is_between low high 2 (extent s Z l)) h in
+    let y = and_parts (is_between low high 0 (extent s X l)) (is_between low high 1 (extent s Y l)) xy.0 in
     record { level = level; begins = λ a. (on_axis s l low high y.0 y.1 xy.1 a).0; ends = λ a. (on_axis s l low high y.0 y.1 xy.1 a).1 }

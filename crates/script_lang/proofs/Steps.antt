@@ -1,9 +1,10 @@
 -- Steps that give a value or refuse.
+use Rattle.std.proofs.lemmas.Bool.{and_parts}
 use Rattle.std.proofs.Common.{◌≡◌, Bool, true, false, ◌&&◌, Option, Some, None, Result, Ok, Err, refl, ap}
 use Rattle.mesh_model.specs.declared.language.script.Reason.{Reason}
 use Rattle.mesh_model.specs.Language.Forms.{check, found, ◌>>=◌}
 
--- where a step and what follows it gave a value, both did
+-- where a step and what follows it gave a value, and_parts did
 pub bound : {A B E : Type 0} (m : Result A E) (f : A → Result B E) (y : B) → (m >>= f) ≡ Ok y → (x : A) × (m ≡ Ok x) × (f x ≡ Ok y)
 bound (Ok x) f y h = (x, refl, h)
 bound (Err e) f y h = absurd (cc)
@@ -11,10 +12,6 @@ bound (Err e) f y h = absurd (cc)
 pub passed : {A : Type 0} (b : Bool) (e : Reason) (x v : A) → check b e x ≡ Ok v → (b ≡ true) × (x ≡ v)
 passed true e x v h = (refl, cc)
 passed false e x v h = absurd (cc)
-
-pub both : (a b : Bool) → (a && b) ≡ true → (a ≡ true) × (b ≡ true)
-both true b h = (refl, h)
-both false b h = absurd (cc)
 
 pub same_value : {A E : Type 0} (x y : A) → ◌≡◌ {A = Result A E} (Ok x) (Ok y) → x ≡ y
 same_value x y h = cc

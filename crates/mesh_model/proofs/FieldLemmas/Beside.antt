@@ -7,7 +7,7 @@ use Rattle.std.specs.Prelude.{option_map}
 use Rattle.amr_num.specs.declared.Axis.{Axis}
 use Rattle.amr_num.specs.declared.Axis.TheVariants.{X, Y, Z}
 use Rattle.amr_num.specs.declared.CellAt.{CellAt}
-use Rattle.mesh_model.proofs.GeometryLemmas.OnAxes.{with_own}
+use Rattle.mesh_model.proofs.GeometryLemmas.OnAxes.{with_own, with_level}
 use Rattle.mesh_model.proofs.GeometryLemmas.ShapeLimits.{cells_some}
 use Rattle.mesh_model.specs.declared.geometry.Shape.{Shape}
 use Rattle.mesh_model.specs.Geometry.Coordinates.{sub_cell, sub_face, face_of, after, below, above, wrapped, moved, with, on, extent, roots, is_periodic, low_cell, high_cell, Inside}
@@ -174,11 +174,6 @@ high_near : (s : Shape) (a : Axis) (c : CellAt) (r q : ℕ) → Follows (is_peri
 high_near s X c r q h = record { level = refl; on = three _ (doubled s X c.level _ _ (close_back _ _ c.x r _ _ h (omega arith) (omega arith))) (close_same _ _ _ _ (omega arith)) (close_same _ _ _ _ (omega arith)) }
 high_near s Y c r q h = record { level = refl; on = three _ (close_same _ _ _ _ (omega arith)) (doubled s Y c.level _ _ (close_back _ _ c.y r _ _ h (omega arith) (omega arith))) (close_same _ _ _ _ (omega arith)) }
 high_near s Z c r q h = record { level = refl; on = three _ (close_same _ _ _ _ (omega arith)) (close_same _ _ _ _ (omega arith)) (doubled s Z c.level _ _ (close_back _ _ c.z r _ _ h (omega arith) (omega arith))) }
-
-pub with_level : (a : Axis) (r : ℕ) (c : CellAt) → (with a r c).level ≡ c.level
-with_level X r c = refl
-with_level Y r c = refl
-with_level Z r c = refl
 
 with_twice : (a : Axis) (p r : ℕ) (c : CellAt) → with a r (with a p c) ≡ with a r c
 with_twice X p r c = refl

@@ -11,10 +11,10 @@ use Rattle.mesh_model.specs.Tree.Kinds.{Grid, block_of, is_split, is_split_block
 use Rattle.mesh_model.specs.Geometry.Places.{in_block}
 use Rattle.mesh_model.specs.Tree.ValidGrid.{Valid}
 use Rattle.mesh_model.specs.Fields.Views.{cell_view, view_at}
-use Rattle.mesh_model.proofs.FieldLemmas.CellSums.{TreeLike, at_inner, cell_view_sum}
+use Rattle.mesh_model.proofs.FieldLemmas.CellSums.{TreeLike, at_inner, cell_view_sum, parent_of_sub, octant_of_sub}
 use Rattle.mesh_model.proofs.FieldLemmas.ValidGrid.{tree}
 use Rattle.mesh_model.specs.Fields.ArrayPlaces.{HoldsViews, IsInBox, side, Fits, IsSize, cell_extents}
-use Rattle.mesh_model.specs.Fields.Octants.{IsRestricted, IsSplit, OctantHolds, cells_of, eight, half_at, octant_box, parted, AreFew}
+use Rattle.mesh_model.specs.Fields.Octants.{IsRestricted, IsSplit, OctantHolds, cells_of, eight, half_at, octant_box, parted, SumsAreSmall}
 use Rattle.mesh_model.proofs.GeometryLemmas.Halves.{half_below, half_of, halved, in_half, pair_inside, rest_below, same_half, two_halves, by_size}
 use Rattle.mesh_model.proofs.FieldLemmas.BlockPlaces.{above_digit}
 
@@ -125,22 +125,11 @@ octants_make g content b size numbers octants =
 
 -- ---- parts
 
-octant_again : (c : CellAt) (o : ℕ) → o < 8 → octant_of (sub_cell c o) ≡ o
-octant_again c o h = omega arith
-
-parent_again : (c : CellAt) (o : ℕ) → parent_cell (sub_cell c o) ≡ c
-parent_again c o =
-    let level : suc c.level - 1 ≡ c.level = omega arith in
-    let x : (2 * c.x + o % 2) / 2 ≡ c.x = omega arith in
-    let y : (2 * c.y + o / 2 % 2) / 2 ≡ c.y = omega arith in
-    let z : (2 * c.z + o / 4 % 2) / 2 ≡ c.z = omega arith in
-    λ t. record { level = level t; x = x t; y = y t; z = z t }
-
 -- a cell that is not split parts its view among its sub-cells
 pub view_parted : (g : Grid) (content : CellAt → ℤ) (c : CellAt) (o : ℕ) → TreeLike g → o < 8 → is_split g c ≡ false → part o (cell_view g content c) 8 ≡ cell_view g content (sub_cell c o)
 view_parted g content c o like h whole =
     sym (at_inner g content c.level (sub_cell c o) (like.below_whole c o whole) (like.below_whole_leaf c o whole)
-    ∙ ap₂ (λ r d. part r (view_at g content c.level d) 8) (octant_again c o h) (parent_again c o))
+    ∙ ap₂ (λ r d. part r (view_at g content c.level d) 8) (octant_of_sub c o h) (parent_of_sub c o))
 
 -- a child whose cells were given their parts of a block that is not split holds views
 pub child_parted : (g : Grid) (content : CellAt → ℤ) (b : BlockAt) (q : ℕ) (parent old new : List ℤ) → Valid g → q < 8 → is_split_block g b ≡ false →
@@ -184,7 +173,7 @@ octant_fits n g q size = record { x = fits q; y = fits (q / 2); z = fits (q / 4)
     fits r = by_size (λ m. g + m / 2 * (r % 2) + m / 2 ≤ m + 2 * g) n size.cells (omega arith) (omega arith)
 
 -- sums of numbers in range are small enough
-pub small_sums : (n g : ℕ) (numbers : ℕ → ℕ → ℕ → ℤ) → (n ≡ 4) ⊎ (n ≡ 8) → ((i j k : ℕ) → i < n → j < n → k < n → Within (2 ^ 40) (numbers (g + i) (g + j) (g + k))) → AreFew n g numbers
+pub small_sums : (n g : ℕ) (numbers : ℕ → ℕ → ℕ → ℤ) → (n ≡ 4) ⊎ (n ≡ 8) → ((i j k : ℕ) → i < n → j < n → k < n → Within (2 ^ 40) (numbers (g + i) (g + j) (g + k))) → SumsAreSmall n g numbers
 unfolding eight
 small_sums n g numbers size small i j k hi hj hk =
     let each : (o : ℕ) → o < 8 → Within (2 ^ 40) (numbers (g + 2 * i + o % 2) (g + 2 * j + o / 2 % 2) (g + 2 * k + o / 4 % 2)) = λ o h.

@@ -3,7 +3,7 @@ use Rattle.std.proofs.Common.{◌≡◌, ℕ, zero, suc, ◌+◌, ◌*◌, ◌/�
 use Rattle.std.specs.Prelude.{if◌then◌else◌}
 use Rattle.std.specs.List.{list_any}
 use Rattle.std.proofs.lemmas.Int.{ints}
-use Rattle.std.proofs.lemmas.Bool.{cases_Bool, cases_lt}
+use Rattle.std.proofs.lemmas.Bool.{cases_Bool, cases_lt, and_parts}
 use Rattle.std.proofs.lemmas.Bool.Decides.{nat_tests}
 use Rattle.std.proofs.lemmas.Nat.{div-mul-add}
 use Rattle.amr_num.specs.declared.Axis.TheVariants.{X, Y, Z}
@@ -13,15 +13,15 @@ use Rattle.amr_num.specs.Numbers.{sum_below}
 use Rattle.amr_num.proofs.Parts.{sum_below_same, sum_below_add}
 use Rattle.mesh_model.specs.declared.geometry.Shape.{Shape}
 use Rattle.mesh_model.specs.Geometry.Coordinates.{extent}
-use Rattle.mesh_model.specs.Tree.Kinds.{Grid, lies_in, is_leaf_block, block_of}
+use Rattle.mesh_model.specs.Tree.Kinds.{Grid, is_leaf_block, block_of}
+use Rattle.mesh_model.specs.Geometry.Blocks.{lies_in, InDomain}
 use Rattle.mesh_model.specs.Fields.Plain.{on_cells}
 use Rattle.mesh_model.specs.Tree.Order.{IsIn, Sorted}
 use Rattle.mesh_model.specs.Tree.ValidGrid.{Valid}
-use Rattle.mesh_model.specs.Geometry.Blocks.{InDomain}
 use Rattle.mesh_model.specs.Fields.Totals.{box_sum, level_sum, leaf_sum, block_sum, sum_over}
 use Rattle.mesh_model.proofs.FieldLemmas.LeafSums.{on_leaf, off_leaf}
 use Rattle.mesh_model.proofs.FieldLemmas.Sums.{box_same, box_add, box_zero, sum_below_zero}
-use Rattle.mesh_model.proofs.TreeLemmas.Tiling.{same_level, lies_says, lies_shows, lies_refl, both_true}
+use Rattle.mesh_model.proofs.TreeLemmas.Tiling.{same_level, lies_says, lies_shows, lies_refl}
 use Rattle.mesh_model.proofs.TreeLemmas.Tests.{found}
 
 -- ---- stretches in pieces of n
@@ -110,7 +110,7 @@ is_same leaf b = (leaf.level == b.level) && lies_in leaf b
 
 same_says : (leaf b : BlockAt) → is_same leaf b ≡ true → leaf ≡ b
 unfolding is_same
-same_says leaf b h = let both = both_true _ _ h in same_level leaf b (lies_says leaf b both.1) (eqb-true _ _ both.0)
+same_says leaf b h = let both = and_parts _ _ h in same_level leaf b (lies_says leaf b both.1) (eqb-true _ _ both.0)
 
 same_fails : (leaf b : BlockAt) → (leaf ≡ b → ⊥) → is_same leaf b ≡ false
 same_fails leaf b h = elim (cases_Bool (is_same leaf b)) [

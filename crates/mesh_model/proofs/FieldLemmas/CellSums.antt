@@ -14,7 +14,7 @@ pub record TreeLike (g : Grid) : Type 0 where
   pub below_whole_leaf : (c : CellAt) (q : ℕ) → is_split g c ≡ false → is_leaf g (sub_cell c q) ≡ false
   pub split_level : (c : CellAt) → is_split g c ≡ true → c.level < 10
 
-parent_of_sub : (c : CellAt) (q : ℕ) → parent_cell (sub_cell c q) ≡ c
+pub parent_of_sub : (c : CellAt) (q : ℕ) → parent_cell (sub_cell c q) ≡ c
 parent_of_sub c q =
     let lv : suc c.level - 1 ≡ c.level = omega arith in
     let xs : (2 * c.x + q % 2) / 2 ≡ c.x = omega arith in
@@ -22,7 +22,7 @@ parent_of_sub c q =
     let zs : (2 * c.z + q / 4 % 2) / 2 ≡ c.z = omega arith in
     λ i. record { level = lv i; x = xs i; y = ys i; z = zs i }
 
-octant_of_sub : (c : CellAt) (q : ℕ) → q < 8 → octant_of (sub_cell c q) ≡ q
+pub octant_of_sub : (c : CellAt) (q : ℕ) → q < 8 → octant_of (sub_cell c q) ≡ q
 octant_of_sub c q h = omega arith
 
 module _ (g : Grid) (v : CellAt → ℤ) where

@@ -23,7 +23,7 @@ use Rattle.mesh_model.proofs.TreeLemmas.Ruled.{new_grid_valid}
 use Rattle.mesh_model.proofs.FieldLemmas.ZeroViews.{no_cell_views, no_face_views, no_edge_views}
 use Rattle.mesh_model.proofs.TreeLemmas.Sorting.{new_grid_sorted}
 
-off_or : (on : Bool) {z : ℤ} → z ≡ pos 0 → (if on then z else pos 0) ≡ pos 0
+pub off_or : (on : Bool) {z : ℤ} → z ≡ pos 0 → (if on then z else pos 0) ≡ pos 0
 off_or true h = h
 off_or false h = refl
 

@@ -10,7 +10,7 @@ use Rattle.mesh_model.specs.Tree.Kinds.{Grid, is_split, holds, is_split_edge}
 use Rattle.mesh_model.specs.Geometry.Limits.{IsShape}
 use Rattle.mesh_model.specs.Fields.Views.{edge_view}
 use Rattle.mesh_model.specs.Fields.Circulation.{circulation}
-use Rattle.mesh_model.proofs.FieldLemmas.Beside.{with_level}
+use Rattle.mesh_model.proofs.GeometryLemmas.OnAxes.{with_level}
 use Rattle.mesh_model.proofs.FieldLemmas.CellKinds.{Kinds}
 use Rattle.mesh_model.proofs.FieldLemmas.Circling.{Halves, circulation_sum}
 use Rattle.mesh_model.proofs.FieldLemmas.EdgeSums.{edge_view_sum}

@@ -12,8 +12,8 @@ use Rattle.mesh_model.specs.Geometry.Coordinates.{parent_face, edge_of, edge_num
 use Rattle.mesh_model.specs.Tree.Kinds.{Grid, is_split_edge, is_leaf_edge, is_split_face, is_leaf_face}
 use Rattle.mesh_model.specs.Tree.ValidGrid.{Valid}
 use Rattle.mesh_model.specs.Fields.Views.{is_even, evens, even_round, sum_of, outer_edge_view, edge_view_at, is_even_edge, edge_view, outer_face_view, face_view_at, face_view, sides_of, inner_face}
-use Rattle.mesh_model.proofs.FieldLemmas.Beside.{with_level, own, above_in}
-use Rattle.mesh_model.proofs.GeometryLemmas.OnAxes.{with_own}
+use Rattle.mesh_model.proofs.FieldLemmas.Beside.{own, above_in}
+use Rattle.mesh_model.proofs.GeometryLemmas.OnAxes.{with_level, with_own}
 use Rattle.mesh_model.proofs.FieldLemmas.CellKinds.{wide_of}
 use Rattle.mesh_model.proofs.FieldLemmas.Slots.{extent_double}
 use Rattle.mesh_model.proofs.FieldLemmas.Round.{Beside, across, across_level, shifted_first, shifted_second}

@@ -12,7 +12,7 @@ use Rattle.amr_num.specs.declared.Axis.{Axis}
 use Rattle.amr_num.specs.declared.Axis.TheVariants.{X, Y, Z}
 use Rattle.amr_num.specs.declared.FaceAt.{FaceAt}
 use Rattle.amr_num.specs.declared.EdgeAt.{EdgeAt}
-use Rattle.mesh_model.proofs.GeometryLemmas.OnAxes.{on_with, with_own}
+use Rattle.mesh_model.proofs.GeometryLemmas.OnAxes.{on_with, with_own, with_with, with_level}
 use Rattle.mesh_model.specs.declared.geometry.Shape.{Shape}
 use Rattle.mesh_model.specs.declared.fields.spot.RangeStop.{RangeStop}
 use Rattle.mesh_model.specs.Geometry.Limits.{IsShape}
@@ -26,7 +26,6 @@ use Rattle.mesh_model.specs.Fields.RangeWalk.{cell_above, out_above, face_above,
 use Rattle.mesh_model.specs.Geometry.Places.{box_list, in_block, block_cells, block_faces, block_edges}
 use Rattle.mesh_model.proofs.GeometryLemmas.ShapeLimits.{cells_some, extent_some}
 use Rattle.mesh_model.proofs.TreeLemmas.Tests.{and_left, and_right, either_true}
-use Rattle.mesh_model.proofs.FieldLemmas.Beside.{with_level}
 use Rattle.mesh_model.proofs.TreeLemmas.Tiling.{leaf_says}
 
 -- ---- members of lists
@@ -89,7 +88,7 @@ find_none test a (x ∷ xs) h i = elim (cases_Bool (test x)) [
     differ : {A : Type 0} (x : A) → Some x ≡ None → ⊥
     differ x e = cc
 
-or_none : {A : Type 0} (p q : Option A) → option_or p q ≡ None → (p ≡ None) × (q ≡ None)
+pub or_none : {A : Type 0} (p q : Option A) → option_or p q ≡ None → (p ≡ None) × (q ≡ None)
 or_none None q h = (refl, h)
 or_none (Some x) q h = cc
 
@@ -153,11 +152,6 @@ outs_in_range m declared h v = elim (cases_lt v (length m.names.cells)) [
 
 some_is : {A : Type 0} {a b : A} → Some a ≡ Some b → a ≡ b
 some_is {a = a} h = ap (λ o. unwrap_or o a) h
-
-with_with : (a : Axis) (q p : ℕ) (c : CellAt) → with a q (with a p c) ≡ with a q c
-with_with X q p c = refl
-with_with Y q p c = refl
-with_with Z q p c = refl
 
 named : (s : Shape) (a : Axis) (q : ℕ) (d : CellAt) → canonical_face s (face_of a (with a q d)) ≡ face_of a (with a (wrapped (is_periodic s a) (extent s a d.level) q) d)
 named s a q d =

@@ -1,6 +1,7 @@
 -- What each command keeps, along a run up to the first that is refused.
 use Rattle.std.proofs.Common.{true, ◌≡◌, ◌≢◌, ℕ, List, [], ◌∷◌, Option, Some, None, All, ℤ, pos, ◌+ℤ◌, ◌≤ℤ◌, refl, sym, ap, subst, ◌∙◌, ne_eqb}
 use Rattle.std.proofs.lemmas.List.Elements.{All-head, All-tail}
+use Rattle.mesh_model.proofs.FieldLemmas.Walking.{or_none}
 use Rattle.mesh_model.specs.declared.language.script.Command.{Command}
 use Rattle.mesh_model.specs.declared.language.script.Command.TheVariants.{FillAll, FillBox, FaceSet, EdgeSet, Uniform, MarkRefine, MarkDerefine, RefineWhere, DerefineWhere, Regrid, Advect, Curl, Induct, Checkpoint, PrintSize, PrintMesh, PrintTree, PrintRanks, PrintTrace, PrintVar, PrintGuards, Total, NetFlux}
 use Rattle.mesh_model.specs.declared.language.script.Line.{Line}
@@ -17,7 +18,7 @@ use Rattle.mesh_model.proofs.FieldLemmas.Conserving.{advect_conserves}
 use Rattle.mesh_model.proofs.FieldLemmas.Divergence.{circulation_keeps_net, curl_balances, uniform_balances}
 use Rattle.mesh_model.proofs.FieldLemmas.FieldsKept.{leaf_contents_stay_low}
 use Rattle.mesh_model.proofs.FieldLemmas.RegridBalance.{regrid_balances}
-use Rattle.mesh_model.proofs.RunLemmas.RunValid.{held, keeps_validity, neither, same_declared}
+use Rattle.mesh_model.proofs.RunLemmas.RunValid.{held, keeps_validity, same_declared}
 use Rattle.mesh_model.proofs.FieldLemmas.Totals.{regrid_keeps_total}
 use Rattle.mesh_model.proofs.FieldLemmas.ValidGrid.{leaf_inside}
 
@@ -94,7 +95,7 @@ keeps_outs m NetFlux v other = refl
 
 pub courant_held : (m : Mesh) (var : ℕ) (speeds : List ℤ) → refusal m (Advect var speeds) ≡ None → keeps_courant m.grid.shape (three speeds) ≡ true
 unfolding refusal
-courant_held m var speeds none = held _ _ (neither _ _ none).0
+courant_held m var speeds none = held _ _ (or_none _ _ none).0
 
 pub stays_positive : (m : Mesh) (command : Command) → ValidMesh m → refusal m command ≡ None → StaysPositive m command (mesh_after m command)
 stays_positive m command valid none v advects low c leaf =

@@ -9,7 +9,7 @@ use Rattle.amr_num.specs.declared.BlockAt.{BlockAt}
 use Rattle.amr_num.specs.declared.CellAt.{CellAt}
 use Rattle.amr_num.specs.declared.EdgeAt.{EdgeAt}
 use Rattle.amr_num.specs.declared.FaceAt.{FaceAt}
-use Rattle.mesh_model.proofs.GeometryLemmas.OnAxes.{with_same}
+use Rattle.mesh_model.proofs.GeometryLemmas.OnAxes.{with_same, same_block}
 use Rattle.mesh_model.specs.declared.geometry.Shape.{Shape}
 use Rattle.mesh_model.specs.declared.language.script.Command.{Command}
 use Rattle.mesh_model.specs.declared.language.script.Command.TheVariants.{FillAll, FillBox, FaceSet, EdgeSet, Uniform, MarkRefine, MarkDerefine, RefineWhere, DerefineWhere, Regrid, Advect, Curl, Induct, Checkpoint, PrintSize, PrintMesh, PrintTree, PrintRanks, PrintTrace, PrintVar, PrintGuards, Total, NetFlux}
@@ -40,17 +40,13 @@ use Rattle.mesh_model.proofs.FieldLemmas.FieldsKept.{advect_on_leaves, faces_on_
 use Rattle.mesh_model.proofs.FieldLemmas.KeptValid.{advect_declared, advect_valid, faces_declared, faces_valid, regrid_declared, regrid_valid}
 use Rattle.mesh_model.proofs.FieldLemmas.LeafSums.{off_leaf}
 use Rattle.mesh_model.proofs.GeometryLemmas.ShapeLimits.{cells_some}
-use Rattle.mesh_model.proofs.FieldLemmas.Walking.{contents_in_range, edges_in_range, faces_in_range, outs_in_range}
+use Rattle.mesh_model.proofs.FieldLemmas.Walking.{contents_in_range, edges_in_range, faces_in_range, outs_in_range, or_none}
 
 -- ---- no reason to refuse
 
 pub held : (holds : Bool) (why : Refusal) → or_else holds why ≡ None → holds ≡ true
 held true why h = refl
 held false why h = absurd (cc)
-
-pub neither : {A : Type 0} (p q : Option A) → option_or p q ≡ None → (p ≡ None) × (q ≡ None)
-neither None q h = (refl, h)
-neither (Some x) q h = absurd (cc)
 
 no_excess : (stop : Option RangeStop) → option_map refusals.Range stop ≡ None → stop ≡ None
 no_excess None h = refl
@@ -139,13 +135,6 @@ same_edge e h t =
     let a = same_axis e.axis h.axis both.0 in
     let n = same_cell (edge_numbers e) (edge_numbers h) both.1 in
     λ i. record { axis = a i; level = (n i).level; x = (n i).x; y = (n i).y; z = (n i).z }
-
-same_block : (a b : BlockAt) → is_same_block a b ≡ true → a ≡ b
-same_block a b h =
-    let with_z = and_parts ((a.level == b.level) && (a.x == b.x) && (a.y == b.y)) (a.z == b.z) h in
-    let with_y = and_parts ((a.level == b.level) && (a.x == b.x)) (a.y == b.y) with_z.0 in
-    let with_x = and_parts (a.level == b.level) (a.x == b.x) with_y.0 in
-    λ i. record { level = eqb-true a.level b.level with_x.0 i; x = eqb-true a.x b.x with_x.1 i; y = eqb-true a.y b.y with_y.1 i; z = eqb-true a.z b.z with_z.1 i }
 
 -- a canonical position is its own name
 own_place : (s : Shape) (a : Axis) (l p : ℕ) → is_canonical_at s a l p ≡ true → wrapped (is_periodic s a) (extent s a l) p ≡ p
@@ -320,14 +309,14 @@ keeps_validity m (FillBox var level low high value) valid fits none = cells_vali
 keeps_validity m (FaceSet at value) valid fits none = set_face_valid m at value valid fits.0 (held _ _ none) fits.2
 keeps_validity m (EdgeSet at value) valid fits none = set_edge_valid m at value valid fits.0 (held _ _ none) fits.2
 keeps_validity m (Uniform b) valid fits none = faces_after m _ valid fits.0 none
-keeps_validity m (MarkRefine at) valid fits none = let parts = neither _ _ none in mark_refine_valid m at valid (held _ _ parts.0) (held _ _ parts.1)
-keeps_validity m (MarkDerefine at) valid fits none = let parts = neither _ _ none in mark_derefine_valid m at valid (held _ _ parts.0) (held _ _ parts.1)
+keeps_validity m (MarkRefine at) valid fits none = let parts = or_none _ _ none in mark_refine_valid m at valid (held _ _ parts.0) (held _ _ parts.1)
+keeps_validity m (MarkDerefine at) valid fits none = let parts = or_none _ _ none in mark_derefine_valid m at valid (held _ _ parts.0) (held _ _ parts.1)
 keeps_validity m (RefineWhere var above) valid fits none = refine_where_valid m var above valid
 keeps_validity m (DerefineWhere var below) valid fits none = derefine_where_valid m var below valid
-keeps_validity m Regrid valid fits none = let parts = neither _ _ none in regrid_after m valid parts.0 parts.1
-keeps_validity m (Advect var speeds) valid fits none = advect_after m var (three speeds) valid fits.0 (neither _ _ none).1
+keeps_validity m Regrid valid fits none = let parts = or_none _ _ none in regrid_after m valid parts.0 parts.1
+keeps_validity m (Advect var speeds) valid fits none = advect_after m var (three speeds) valid fits.0 (or_none _ _ none).1
 keeps_validity m Curl valid fits none = faces_after m (circulation m.grid (edge_view m.grid m.edges)) valid fits.0 none
-keeps_validity m (Induct speeds) valid fits none = faces_after m _ valid fits.0 (neither _ _ none).1
+keeps_validity m (Induct speeds) valid fits none = faces_after m _ valid fits.0 (or_none _ _ none).1
 keeps_validity m Checkpoint valid fits none = valid
 keeps_validity m PrintSize valid fits none = valid
 keeps_validity m PrintMesh valid fits none = valid

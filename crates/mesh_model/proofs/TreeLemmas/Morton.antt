@@ -2,18 +2,16 @@
 use Rattle.std.proofs.Common.{◌≡◌, ℕ, zero, suc, ◌+◌, ◌*◌, ◌/◌, ◌%◌, ◌^◌, ◌<◌, refl, sym, ap, ap₂, ◌∙◌, arith}
 use Rattle.std.proofs.Math.Nat.{div-div-eq-div-mul, mul_assoc}
 use Rattle.std.proofs.Math.Pow.{pow-add}
+use Rattle.mesh_model.proofs.TreeLemmas.Tiling.{double}
 use Rattle.mesh_model.specs.Tree.Order.{interleave}
 
 pub step : (k x y z : ℕ) → interleave (suc k) x y z ≡ (x % 2 + 2 * (y % 2) + 4 * (z % 2)) + 8 * interleave k (x / 2) (y / 2) (z / 2)
 unfolding interleave
 step k x y z = refl
 
-none : (x y z : ℕ) → interleave zero x y z ≡ 0
+pub none : (x y z : ℕ) → interleave zero x y z ≡ 0
 unfolding interleave
 none x y z = refl
-
-twice : (x k : ℕ) → x * 2 ^ suc k ≡ 2 * (x * 2 ^ k)
-twice x k = grind arith
 
 pub power8 : (k : ℕ) → 8 ^ suc k ≡ 8 * 8 ^ k
 power8 k = let one : suc k ≡ 1 + k = omega arith in ap (λ d. 8 ^ d) one ∙ pow-add 8 1 k
@@ -40,9 +38,9 @@ shifted zero j n x y z e =
     rw (same, x1, y1, z1) (omega arith)
 shifted (suc k) j zero x y z e = absurd (omega arith)
 shifted (suc k) j (suc n) x y z e =
-    let x2 = twice x k in
-    let y2 = twice y k in
-    let z2 = twice z k in
+    let x2 = double x k in
+    let y2 = double y k in
+    let z2 = double z k in
     let xm : x * 2 ^ suc k % 2 ≡ 0 = omega arith in
     let ym : y * 2 ^ suc k % 2 ≡ 0 = omega arith in
     let zm : z * 2 ^ suc k % 2 ≡ 0 = omega arith in

@@ -10,15 +10,15 @@ use Rattle.mesh_model.specs.Tree.Kinds.{Grid}
 use Rattle.mesh_model.specs.Tree.Order.{IsIn, Sorted, key, morton, begun_at, nodes}
 use Rattle.mesh_model.specs.Tree.ValidGrid.{Valid}
 use Rattle.mesh_model.proofs.TreeLemmas.Tests.{in_left, in_right, in_either, in_flat, from_flat, all_three, and_both}
-use Rattle.mesh_model.proofs.TreeLemmas.Tiling.{nested, lies_trans, lies_refl, child_in, finest, finest_in, domain_finest, domain_up}
+use Rattle.mesh_model.proofs.TreeLemmas.Tiling.{nested, lies_trans, lies_refl, child_in, finest, finest_in, domain_finest, domain_up, double}
 use Rattle.mesh_model.proofs.TreeLemmas.Regrown.{is_parent}
 use Rattle.mesh_model.proofs.TreeLemmas.Sorting.{sorted_append, sorted_flat, morton_child, span_pos, past_end}
 
-begun_first : (l : ℕ) (c : BlockAt) → is_first_child c ≡ true → begun_at (suc l) c ≡ begun_at l (parent_block c) ++ c ∷ []
+pub begun_first : (l : ℕ) (c : BlockAt) → is_first_child c ≡ true → begun_at (suc l) c ≡ begun_at l (parent_block c) ++ c ∷ []
 unfolding begun_at
 begun_first l c t = rw (t, begun_at) refl
 
-begun_other : (l : ℕ) (c : BlockAt) → is_first_child c ≡ false → begun_at (suc l) c ≡ c ∷ []
+pub begun_other : (l : ℕ) (c : BlockAt) → is_first_child c ≡ false → begun_at (suc l) c ≡ c ∷ []
 unfolding begun_at
 begun_other l c f = rw (f, begun_at) refl
 
@@ -50,9 +50,6 @@ own_node (suc l) c = elim (cases_Bool (is_first_child c)) [
   | inr f ↦ subst (λ u. IsIn c u) (sym (begun_other l c f)) (inl refl)
 ]
 
-twice : (x d : ℕ) → x * 2 ^ suc d ≡ 2 * (x * 2 ^ d)
-twice x d = grind arith
-
 has_node : (d l : ℕ) (c b : BlockAt) → c.level ≡ l → l ≡ b.level + d → c.x ≡ b.x * 2 ^ d → c.y ≡ b.y * 2 ^ d → c.z ≡ b.z * 2 ^ d → IsIn b (begun_at l c)
 has_node zero l c b e level x y z =
     let level0 : c.level ≡ b.level = omega arith in
@@ -63,9 +60,9 @@ has_node zero l c b e level x y z =
     once u w h = omega arith
 has_node (suc d) zero c b e level x y z = absurd (omega arith)
 has_node (suc d) (suc l) c b e level x y z =
-    let x2 = x ∙ twice b.x d in
-    let y2 = y ∙ twice b.y d in
-    let z2 = z ∙ twice b.z d in
+    let x2 = x ∙ double b.x d in
+    let y2 = y ∙ double b.y d in
+    let z2 = z ∙ double b.z d in
     let first : is_first_child c ≡ true = and_both ((c.x % 2 == 0) && (c.y % 2 == 0)) (c.z % 2 == 0) (and_both (c.x % 2 == 0) (c.y % 2 == 0) (eq-eqb _ _ (omega arith)) (eq-eqb _ _ (omega arith))) (eq-eqb _ _ (omega arith)) in
     let up = has_node d l (parent_block c) b (omega arith) (omega arith) (omega arith) (omega arith) (omega arith) in
     subst (λ u. IsIn b u) (sym (begun_first l c first)) (in_left b (begun_at l (parent_block c)) (c ∷ []) up)

@@ -27,7 +27,7 @@ use Rattle.mesh_model.proofs.TreeLemmas.Ruled.{fit, room}
 unfoldable pub span : ℕ → ℕ
 span l = 8 ^ (10 - l)
 
-morton_of : (b : BlockAt) → b.level ≤ 10 → morton b ≡ span b.level * interleave (b.level + 3) b.x b.y b.z
+pub morton_of : (b : BlockAt) → b.level ≤ 10 → morton b ≡ span b.level * interleave (b.level + 3) b.x b.y b.z
 unfolding morton low_end span
 morton_of b h = shifted (10 - b.level) (b.level + 3) 13 b.x b.y b.z (omega arith)
 

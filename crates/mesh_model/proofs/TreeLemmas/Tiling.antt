@@ -3,20 +3,16 @@ use Rattle.std.proofs.Common.{◌≡◌, ℕ, suc, ◌+◌, ◌-◌, ◌*◌, �
 use Rattle.std.proofs.Math.Nat.{div-div-eq-div-mul, mul-div_cancel, div-lt_iff_lt-mul, mul_assoc, mul-lt-mul_of_pos_right}
 use Rattle.std.proofs.Math.Pow.{pow-add}
 use Rattle.std.proofs.lemmas.Nat.{pow_pos}
-use Rattle.std.proofs.lemmas.Bool.{cases_Bool, cases_lt}
+use Rattle.std.proofs.lemmas.Bool.{cases_Bool, cases_lt, and_parts}
 use Rattle.amr_num.specs.declared.BlockAt.{BlockAt}
 use Rattle.mesh_model.specs.declared.geometry.Shape.{Shape}
-use Rattle.mesh_model.specs.Tree.Kinds.{Grid, lies_in, is_leaf_block, is_split_block}
+use Rattle.mesh_model.specs.Tree.Kinds.{Grid, is_leaf_block, is_split_block}
+use Rattle.mesh_model.specs.Geometry.Blocks.{lies_in, LiesIn, InDomain}
 use Rattle.mesh_model.specs.Tree.Order.{IsIn}
 use Rattle.mesh_model.specs.Tree.ValidGrid.{Tiles}
-use Rattle.mesh_model.specs.Geometry.Blocks.{LiesIn, InDomain}
 use Rattle.mesh_model.proofs.TreeLemmas.Tests.{all_four, found, there}
 
 -- ---- tests and what they say
-
-pub both_true : (a b : Bool) → (a && b) ≡ true → (a ≡ true) × (b ≡ true)
-both_true true b h = (refl, h)
-both_true false b h = cc
 
 pub lies_says : (b a : BlockAt) → lies_in b a ≡ true → LiesIn b a
 lies_says b a h =
@@ -100,7 +96,7 @@ child_in b a h =
       z = ap (λ d. b.z / 2 ^ d) one ∙ h.z;
     }
 
-double : (r l : ℕ) → r * 2 ^ suc l ≡ 2 * (r * 2 ^ l)
+pub double : (r l : ℕ) → r * 2 ^ suc l ≡ 2 * (r * 2 ^ l)
 double r l = grind arith
 
 up_below : (r l x d : ℕ) → x < r * 2 ^ (l + d) → x / 2 ^ d < r * 2 ^ l
@@ -151,7 +147,7 @@ module _ (g : Grid) where
   unfolding is_leaf_block
   leaf_says b h =
       let l = found _ g.leaves h in
-      let both = both_true _ _ l.2 in
+      let both = and_parts _ _ l.2 in
       let e = eqb-true _ _ both.0 in
       subst (λ c. IsIn c g.leaves) (same_level l.0 b (lies_says l.0 b both.1) e) l.1
 
@@ -163,7 +159,7 @@ module _ (g : Grid) where
   unfolding is_split_block
   split_says b h =
       let l = found _ g.leaves h in
-      let both = both_true _ _ l.2 in
+      let both = and_parts _ _ l.2 in
       (l.0, l.1, ltb-true _ _ both.0, lies_says l.0 b both.1)
 
   pub split_shows : (b leaf : BlockAt) → IsIn leaf g.leaves → b.level < leaf.level → LiesIn leaf b → is_split_block g b ≡ true

@@ -34,8 +34,8 @@ abbrev pub summed : ℕ → (ℕ → ℕ → ℕ → ℤ) → ℕ → ℕ → �
 summed g child i j k = eight child (g + 2 * i) (g + 2 * j) (g + 2 * k)
 
 -- each of these sums is small enough to be stored
-abbrev pub AreFew : ℕ → ℕ → (ℕ → ℕ → ℕ → ℤ) → Type 0
-AreFew n g child = (i j k : ℕ) → i < n / 2 → j < n / 2 → k < n / 2 → Within (2 ^ 62) (summed g child i j k)
+abbrev pub SumsAreSmall : ℕ → ℕ → (ℕ → ℕ → ℕ → ℤ) → Type 0
+SumsAreSmall n g child = (i j k : ℕ) → i < n / 2 → j < n / 2 → k < n / 2 → Within (2 ^ 62) (summed g child i j k)
 
 -- what the cell (i, j, k) of the child q gets of the parent: its part of the cell in which it lies
 unfoldable pub parted : ℕ → ℕ → ℕ → (ℕ → ℕ → ℕ → ℤ) → ℕ → ℕ → ℕ → ℤ

@@ -1,5 +1,5 @@
 -- Blocks, their children and parents.
-use Rattle.std.specs.Prelude.{◌≡◌, ◌<◌, ◌≤◌, ◌^◌, ℕ, suc, ◌+◌, ◌-◌, ◌*◌, ◌/◌, ◌%◌, Bool, ◌&&◌, ◌==◌, List, [], ◌∷◌, map}
+use Rattle.std.specs.Prelude.{◌≡◌, ◌<◌, ◌≤◌, ◌^◌, ℕ, suc, ◌+◌, ◌-◌, ◌*◌, ◌/◌, ◌%◌, Bool, ◌&&◌, ◌==◌, List, [], ◌∷◌, map, nat_le}
 use Rattle.amr_num.specs.declared.BlockAt.{BlockAt}
 use Rattle.amr_num.specs.declared.CellAt.{CellAt}
 use Rattle.mesh_model.specs.declared.geometry.Shape.{Shape}
@@ -29,6 +29,12 @@ pub record LiesIn (b a : BlockAt) : Type 0 where
   pub x : b.x / 2 ^ (b.level - a.level) ≡ a.x
   pub y : b.y / 2 ^ (b.level - a.level) ≡ a.y
   pub z : b.z / 2 ^ (b.level - a.level) ≡ a.z
+
+-- the same as a test
+abbrev pub lies_in : BlockAt → BlockAt → Bool
+lies_in b a =
+    nat_le a.level b.level && (b.x / 2 ^ (b.level - a.level) == a.x) && (b.y / 2 ^ (b.level - a.level) == a.y)
+    && (b.z / 2 ^ (b.level - a.level) == a.z)
 
 -- b is a block of the domain, of a level of the mesh
 pub record InDomain (s : Shape) (b : BlockAt) : Type 0 where

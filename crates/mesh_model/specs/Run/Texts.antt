@@ -117,5 +117,3 @@ guards_text m Edge b =
     let g = m.grid.shape.g in
     flat_map (λ a. text_line (codes "guards" ∷ group_name m.names Edge ∷ axis_name a ∷ block_words b)
     ++ array_text (longer_across a X n + 2 * g) (longer_across a Y n + 2 * g) (longer_across a Z n + 2 * g) (λ i j k. edge_guard m.grid m.edges a b.level (guard_index n g b.x i) (guard_index n g b.y j) (guard_index n g b.z k))) (X ∷ Y ∷ Z ∷ [])
-
--- ---- why a script is refused

@@ -8,7 +8,7 @@ use Rattle.amr_num.specs.declared.EdgeAt.{EdgeAt}
 use Rattle.mesh_model.specs.declared.geometry.Shape.{Shape}
 use Rattle.mesh_model.specs.declared.tree.NodeKind.{NodeKind}
 use Rattle.mesh_model.specs.declared.tree.NodeKind.TheVariants.{Leaf, AboveLeaf, Inner}
-use Rattle.mesh_model.specs.Geometry.Blocks.{children}
+use Rattle.mesh_model.specs.Geometry.Blocks.{children, lies_in}
 use Rattle.mesh_model.specs.Geometry.Coordinates.{low_cell, high_cell, round_edge}
 
 -- the domain, and the blocks that are leaves
@@ -19,12 +19,6 @@ pub record Grid : Type 0 where
 -- the block of n cells along each axis in which a cell lies
 abbrev pub block_of : ℕ → CellAt → BlockAt
 block_of n c = record { level = c.level; x = c.x / n; y = c.y / n; z = c.z / n }
-
--- b lies in the block a, which is not finer
-abbrev pub lies_in : BlockAt → BlockAt → Bool
-lies_in b a =
-    nat_le a.level b.level && (b.x / 2 ^ (b.level - a.level) == a.x) && (b.y / 2 ^ (b.level - a.level) == a.y)
-    && (b.z / 2 ^ (b.level - a.level) == a.z)
 
 -- b is a leaf; finer leaves lie in b
 unfoldable pub is_leaf_block : Grid → BlockAt → Bool

@@ -14,13 +14,13 @@ use Rattle.mesh_model.specs.Tree.Kinds.{Grid, kind_of}
 use Rattle.mesh_model.specs.Geometry.Touch.{block_on}
 
 -- the place of a block in a list of blocks, from 0
-abbrev pub place_in : BlockAt → List BlockAt → Option ℕ
-place_in b [] = None
-place_in b (c ∷ cs) = if is_same_block c b then Some 0 else option_map suc (place_in b cs)
+abbrev pub node_place : BlockAt → List BlockAt → Option ℕ
+node_place b [] = None
+node_place b (c ∷ cs) = if is_same_block c b then Some 0 else option_map suc (node_place b cs)
 
 -- the number of a node: its place in Morton order
-abbrev pub number_of : Grid → BlockAt → Option ℕ
-number_of g b = place_in b (nodes g.leaves)
+abbrev pub node_number : Grid → BlockAt → Option ℕ
+node_number g b = node_place b (nodes g.leaves)
 
 -- the block above a node, which a root has not
 abbrev pub block_above : BlockAt → Option BlockAt
@@ -59,12 +59,12 @@ reported (Some number) = pos number
 
 -- the number of the parent, -1 for a root
 abbrev pub parent_reported : Grid → BlockAt → ℤ
-parent_reported g b = elim (block_above b) [ Some p ↦ reported (number_of g p) | None ↦ negsuc 0 ]
+parent_reported g b = elim (block_above b) [ Some p ↦ reported (node_number g p) | None ↦ negsuc 0 ]
 
 -- what is reported of the neighbour across a side: its number, -1 where it is no node, -20 at an outer boundary
 abbrev pub across : Grid → Option BlockAt → ℤ
 across g None = negsuc 19
-across g (Some b) = reported (number_of g b)
+across g (Some b) = reported (node_number g b)
 
 -- what is reported across the six sides
 abbrev pub all_across : Grid → BlockAt → List ℤ

@@ -4,7 +4,7 @@ use Rattle.mesh_model.specs.declared.geometry.Shape.{Shape}
 use Rattle.mesh_model.specs.declared.fields.values.Var.TheVariants.{Cell}
 use Rattle.mesh_model.specs.Fields.Arrays.{Counts, var_length}
 use Rattle.mesh_model.specs.Geometry.Blocks.{child_block}
-use Rattle.mesh_model.specs.Fields.Octants.{AreFew, IsRestricted, OctantHolds, cells_of}
+use Rattle.mesh_model.specs.Fields.Octants.{SumsAreSmall, IsRestricted, OctantHolds, cells_of}
 use Rattle.mesh_model.specs.Fields.ArrayPlaces.{HoldsViews, cell_extents, number_at}
 use Rattle.mesh_model.specs.Tree.ValidGrid.{Valid}
 use Rattle.mesh_model.proofs.FieldLemmas.BlockOctants.{octant_summed, other_octant, small_sums}
@@ -18,7 +18,7 @@ use Rattle.regrid_move.proofs.leaves.sum_child.Goals as goal
 pub restrict_cells-requires-clause-few : goal.restrict_cells-requires-clause-few
 restrict_cells-requires-clause-few g c =
     let old = c.args.old.now in
-    subst (λ (ys : List ℤ). AreFew g.row.N g.row.G (number_at (cell_extents g.row.N g.row.G) ys)) (sym c.values-values.ensures.value)
+    subst (λ (ys : List ℤ). SumsAreSmall g.row.N g.row.G (number_at (cell_extents g.row.N g.row.G) ys)) (sym c.values-values.ensures.value)
     (few_sized g.row.N g.row.G old.told.grid.shape (cell_array old c.args.v c.args.child) c.requires.may.old_fit.sizes
     (small_sums old.told.grid.shape.n old.told.grid.shape.g (cells_of old.told.grid (cell_array old c.args.v c.args.child))
     (subst (λ m. (m ≡ 4) ⊎ (m ≡ 8)) (sym c.requires.may.old_fit.sizes.cells) c.values-values.ensures.size.cells) (c.requires.may.range c.args.v c.args.child c.requires.may.variable c.requires.child).cells))

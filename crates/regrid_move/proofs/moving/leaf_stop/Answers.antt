@@ -7,7 +7,7 @@ use Rattle.block_tree.specs.Numbered.{block_at}
 use Rattle.mesh_model.specs.Fields.ArrayPlaces.{HoldsViews, cell_extents, number_at}
 use Rattle.mesh_model.specs.Tree.Kinds.{Grid}
 use Rattle.mesh_model.specs.Geometry.Places.{in_block}
-use Rattle.mesh_model.specs.Tree.ValidGrid.{InDomain}
+use Rattle.mesh_model.specs.Geometry.Blocks.{InDomain}
 use Rattle.mesh_model.specs.declared.fields.values.Group.TheVariants as groups
 use Rattle.mesh_model.specs.declared.fields.spot.Spot.TheVariants as spots
 use Rattle.regrid_move.proofs.Stops.{inside_of, small_block, stop_sized, told_of}

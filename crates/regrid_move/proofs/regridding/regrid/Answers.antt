@@ -2,7 +2,7 @@ use Rattle.std.proofs.Common.{◌≡◌, ◌<◌, ◌∙◌, ap, ap₂, subst, s
 use Rattle.mesh_model.specs.Fields.Arrays.{Counts}
 use Rattle.mesh_model.specs.Tree.Order.{nodes}
 use Rattle.mesh_model.specs.Tree.Kinds.{Grid}
-use Rattle.mesh_model.specs.Fields.Plain.{Mesh}
+use Rattle.mesh_model.specs.Fields.Plain.{marked, Mesh}
 use Rattle.mesh_model.specs.Fields.Ranks.{Told, WorldState}
 use Rattle.mesh_model.specs.Tree.Regrown.{new_grid, regrown}
 use Rattle.mesh_model.specs.Fields.Regrid.{regrid}
@@ -24,7 +24,7 @@ after_same : (g h : Grid) (a b c d : List Bool) → g ≡ h → a ≡ b → c �
 after_same g h a b c d gh ab cd = ap (λ k. grid_after k a c) gh ∙ ap₂ (λ u w. grid_after h u w) ab cd
 
 -- the grid after the plan is the new mesh's
-along : (now : WorldState) (plan : Plan) (m : Mesh) → AreOfMesh now plan m → regrown now.told.grid (refined_by now.told.grid plan) (merged_by now.told.grid plan) ≡ new_grid m
+along : (now : WorldState) (plan : Plan) (m : Mesh) → AreOfMesh now plan m → regrown now.told.grid (refined_by now.told.grid plan) (merged_by now.told.grid plan) ≡ new_grid (marked m)
 along now plan m of = ap (λ h. regrown h (refined_by h plan) (merged_by h plan)) of.world.grid ∙ sym of.plan_is
 
 grown : (now : WorldState) (plan : Plan) (m : Mesh) → AreOfMesh now plan m → (stop : GrowStop) → IsGrowStop (grid_after now.told.grid plan.refine.items plan.merge.items) stop → IsRegridStop m (of_growth stop)
@@ -57,19 +57,19 @@ returns-in-None-clause-mesh g c m of =
     let now = c.args.world.now in
     let new = c.move_all.new.new in
     let same = after_same _ _ _ _ _ _ c.tree.ensures c.deref.ensures.value c.deref-2.ensures.value in
-    let tree_is : grid_of c.in-Ok.tree ≡ new_grid m = c.in-Ok.ensures.tree ∙ same ∙ along now c.args.plan.now m of in
+    let tree_is : grid_of c.in-Ok.tree ≡ new_grid (marked m) = c.in-Ok.ensures.tree ∙ same ∙ along now c.args.plan.now m of in
     let told = c.move_all.ensures.told in
-    let moved_is : c.in-Ok-on_tree.new.told.grid ≡ new_grid m = c.in-Ok-on_tree.ensures.grid_is ∙ tree_is in
-    let new_is : new.told.grid ≡ new_grid m = ap (λ (t : Told). t.grid) told ∙ moved_is in
-    let valid : Valid (new_grid m) = subst Valid tree_is (known c.in-Ok.tree).valid in
+    let moved_is : c.in-Ok-on_tree.new.told.grid ≡ new_grid (marked m) = c.in-Ok-on_tree.ensures.grid_is ∙ tree_is in
+    let new_is : new.told.grid ≡ new_grid (marked m) = ap (λ (t : Told). t.grid) told ∙ moved_is in
+    let valid : Valid (new_grid (marked m)) = subst Valid tree_is (known c.in-Ok.tree).valid in
     let counts = ap (λ (t : Told). t.counts) told ∙ c.in-Ok-on_tree.ensures.counts_are ∙ c.layout.ensures in
     let cells : new.told.counts.cells ≡ now.told.counts.cells = ap (λ (k : Counts). k.cells) counts in
     let none : c.move_all.result ≡ None = c.in-None.is in
     record {
       few = subst FewNodes (same ∙ along now c.args.plan.now m of) c.in-Ok.ensures.few;
       in_range =
-          subst (λ n. all_stop m.grid (new_grid m) m.cells n ≡ None) of.world.cells
-          (subst (λ h. all_stop h (new_grid m) m.cells now.told.counts.cells ≡ None) of.world.grid
+          subst (λ n. all_stop m.grid (new_grid (marked m)) m.cells n ≡ None) of.world.cells
+          (subst (λ h. all_stop h (new_grid (marked m)) m.cells now.told.counts.cells ≡ None) of.world.grid
           (subst (λ h. all_stop now.told.grid h m.cells now.told.counts.cells ≡ None) new_is (sym (c.move_all.ensures.stop m.cells of.world.contents) ∙ none)));
       world = record {
         grid = new_is;
