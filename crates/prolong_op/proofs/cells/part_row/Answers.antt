@@ -1,10 +1,9 @@
-use Rattle.std.proofs.Common.{◌≡◌, ◌+◌, ◌-◌, ◌*◌, ◌/◌, ◌%◌, ◌<◌, ◌≤◌, ℕ, List, ℤ, arith, ap, drop, get_or, length, pos, subst, sym, ◌∙◌, rules, take}
-use Rattle.std.proofs.lemmas.List.{length-drop, length-take, length-take-le}
-use Rattle.amr_num.specs.Numbers.{at}
+use Rattle.std.proofs.Common.{◌≡◌, ◌+◌, ◌-◌, ◌/◌, ◌%◌, ◌<◌, ◌≤◌, ℕ, ℤ, arith, ap, drop, get_or, length, pos, subst, sym, ◌∙◌, rules, take}
+use Rattle.std.proofs.lemmas.List.{length-drop, length-take-le}
 use Rattle.mesh_model.specs.Fields.Octants.{parted}
 use Rattle.mesh_model.specs.Fields.ArrayPlaces as places
 use Rattle.mesh_model.specs.Fields.ArrayPlaces.{IsRowWritten, cell_extents, interior, number_at, row_of, size_of}
-use Rattle.mesh_model.proofs.FieldLemmas.BlockPlaces.{interior_fits, row_fits, row_put, row_y, row_z}
+use Rattle.mesh_model.proofs.FieldLemmas.BlockPlaces.{interior_fits, row_fits, row_put}
 use Rattle.prolong_op.proofs.Rows.{row_parts}
 use Rattle.prolong_op.proofs.cells.part_row.Goals as goal
 use borrow.Rule.Slice.PartMut.{put_mid}

@@ -1,5 +1,4 @@
-use Rattle.std.proofs.Common.{rules, ◌∙◌}
-use Rattle.std.proofs.lemmas.Int.{ints}
+use Rattle.std.proofs.Common.{rules}
 use Rattle.restrict_op.specs.Rows.{pair_in}
 use Rattle.restrict_op.proofs.cells.pair.Goals as goal
 

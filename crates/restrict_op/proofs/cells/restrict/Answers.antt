@@ -2,7 +2,7 @@ use Rattle.std.proofs.Common.{◌≡◌, ◌*◌, ◌/◌, arith, subst}
 use Rattle.mesh_model.specs.Fields.Octants.{octant_box, summed}
 use Rattle.mesh_model.specs.Fields.ArrayPlaces.{AreRowsWritten, cell_extents, number_at}
 use Rattle.mesh_model.proofs.FieldLemmas.BlockOctants.{octant_fits}
-use Rattle.mesh_model.proofs.FieldLemmas.BlockPlaces.{all_rows, no_rows, one_more_row}
+use Rattle.mesh_model.proofs.FieldLemmas.BlockPlaces.{all_rows, one_more_row}
 use Rattle.restrict_op.proofs.cells.restrict.Goals as goal
 
 pub loop-m-preserved : goal.loop-m-preserved

@@ -1,13 +1,12 @@
 use borrow.Rule.Slice.PartMut.{put_mid}
-use Rattle.std.proofs.Common.{◌≡◌, ◌+◌, ◌-◌, ◌*◌, ◌/◌, ◌%◌, ◌<◌, ◌≤◌, ◌^◌, ℕ, List, ℤ, arith, ap, drop, get_or, length, pos, subst, sym, ◌∙◌, rules, take}
+use Rattle.std.proofs.Common.{◌≡◌, ◌+◌, ◌-◌, ◌/◌, ◌%◌, ◌<◌, ◌≤◌, ◌^◌, ℕ, ℤ, arith, ap, drop, get_or, length, pos, subst, sym, ◌∙◌, rules, take}
 use Rattle.std.proofs.lemmas.List.{length-drop, length-take, length-take-le}
-use Rattle.amr_num.specs.Numbers.{Within, at}
+use Rattle.amr_num.specs.Numbers.{Within}
 use Rattle.mesh_model.specs.Fields.Octants.{octant_box, summed}
 use Rattle.mesh_model.specs.Fields.ArrayPlaces as places
 use Rattle.mesh_model.specs.Fields.ArrayPlaces.{IsRowWritten, cell_extents, number_at, row_of, size_of}
 use Rattle.mesh_model.proofs.FieldLemmas.BlockOctants.{octant_fits}
 use Rattle.mesh_model.proofs.FieldLemmas.BlockPlaces.{row_fits, row_put, row_y, row_z}
-use Rattle.restrict_op.specs.Rows.{eight_in}
 use Rattle.restrict_op.proofs.Rows.{rows_sum}
 use Rattle.restrict_op.proofs.cells.restrict_row.Goals as goal
 
