@@ -1,4 +1,5 @@
 pub mod Aboves
+pub mod Excess
 pub mod Moved
 pub mod Regridded
 pub mod Steps

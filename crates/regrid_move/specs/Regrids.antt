@@ -4,6 +4,7 @@ use Rattle.mesh_model.specs.Geometry.Limits.{most_nodes}
 use Rattle.mesh_model.specs.Tree.Order.{nodes}
 use Rattle.mesh_model.specs.Tree.Kinds.{Grid}
 use Rattle.mesh_model.specs.Fields.Plain.{marked, Mesh}
+use Rattle.mesh_model.specs.Fields.RangeWalk.{first_excess}
 use Rattle.mesh_model.specs.Fields.Ranks.{WorldState}
 use Rattle.mesh_model.specs.Tree.Regrown.{new_grid, regrown}
 use Rattle.mesh_model.specs.Fields.Regrid.{regrid}
@@ -23,7 +24,7 @@ use Rattle.regrid_move.specs.declared.regridding.RegridStop.TheVariants.{Blocks,
 abbrev pub IsPlanOf : Mesh → Plan → Type 0
 IsPlanOf m plan = new_grid (marked m) ≡ regrown m.grid (refined_by m.grid plan) (merged_by m.grid plan)
 
--- the first number of the new mesh that is out of range: by variables, in each by the leaves in order, in each by its cells, x fastest,
+-- the first number out of range of those that are moved: by variables, in each by the new leaves in order, in each by its cells, x fastest,
 -- then y, then z
 abbrev pub first_moved_excess : Mesh → Option RangeStop
 first_moved_excess m = all_stop m.grid (new_grid (marked m)) m.cells (length m.names.cells)
@@ -37,13 +38,13 @@ pub record AreOfMesh (w : WorldState) (plan : Plan) (m : Mesh) : Type 0 where
 -- the new mesh has nodes within the limit and numbers within their range, and the world is that mesh's
 pub record IsRegridded (m : Mesh) (w : WorldState) : Type 0 where
   pub few : FewNodes (new_grid (marked m))
-  pub in_range : first_moved_excess m ≡ None
+  pub in_range : first_excess (regrid m) ≡ None
   pub world : IsOfMesh w (regrid m)
 
 -- the new mesh has too many nodes, so many; or else a number out of range, the first in the walk; or memory was refused
 abbrev pub IsRegridStop : Mesh → RegridStop → Type 0
 IsRegridStop m (Blocks count) = (count ≡ length (nodes (new_grid (marked m)).leaves)) × (most_nodes (new_grid (marked m)).shape < count)
-IsRegridStop m (Range stop) = FewNodes (new_grid (marked m)) × (first_moved_excess m ≡ Some stop)
+IsRegridStop m (Range stop) = FewNodes (new_grid (marked m)) × (first_excess (regrid m) ≡ Some stop)
 IsRegridStop m OutOfMemory = Unit {0}
 
 -- why there is no new tree

@@ -1,4 +1,4 @@
-use Rattle.std.proofs.Common.{◌≡◌, ◌<◌, ◌∙◌, ap, ap₂, subst, sym, ℕ, Bool, List, None, Some, is_some, true, length, arith}
+use Rattle.std.proofs.Common.{◌≡◌, ◌<◌, ◌∙◌, ap, ap₂, subst, sym, ℕ, Bool, List, Option, None, Some, length, arith}
 use Rattle.mesh_model.specs.Fields.Arrays.{Counts}
 use Rattle.mesh_model.specs.Tree.Order.{nodes}
 use Rattle.mesh_model.specs.Tree.Kinds.{Grid}
@@ -15,8 +15,10 @@ use Rattle.block_tree.specs.Growing.{IsGrowStop, grid_after}
 use Rattle.block_tree.proofs.Facts.{known}
 use Rattle.refine_marks.specs.Planned.{merged_by, refined_by}
 use Rattle.refine_marks.specs.declared.plan.Plan.{Plan}
+use Rattle.mesh_model.specs.declared.fields.spot.RangeStop.{RangeStop}
 use Rattle.regrid_move.specs.Near.{AreNear, all_stop}
-use Rattle.regrid_move.specs.Regrids.{AreOfMesh, IsRegridStop, of_growth}
+use Rattle.regrid_move.specs.Regrids.{AreOfMesh, IsRegridStop, first_moved_excess, of_growth}
+use Rattle.regrid_move.proofs.Excess.{excess_is}
 use Rattle.regrid_move.proofs.Regridded.{near_after, new_leaves}
 use Rattle.regrid_move.proofs.regridding.regrid.Goals as goal
 
@@ -52,6 +54,28 @@ move_all-requires g c =
       },
     )
 
+-- the first number that is moved and out of range is that of the mesh
+first_of : (now : WorldState) (g : Grid) (m : Mesh) (r : Option RangeStop) → now.told.grid ≡ m.grid → now.told.counts.cells ≡ length m.names.cells → g ≡ new_grid (marked m) →
+    all_stop now.told.grid g m.cells now.told.counts.cells ≡ r → first_moved_excess m ≡ r
+first_of now g m r grid cells new is =
+    subst (λ n. all_stop m.grid (new_grid (marked m)) m.cells n ≡ r) cells
+    (subst (λ h. all_stop h (new_grid (marked m)) m.cells now.told.counts.cells ≡ r) grid (subst (λ h. all_stop now.told.grid h m.cells now.told.counts.cells ≡ r) new is))
+
+pub returns-in-Some-clause-stop : goal.returns-in-Some-clause-stop
+returns-in-Some-clause-stop g c m of =
+    let now = c.args.world.now in
+    let new = c.move_all.new.new in
+    let same = after_same _ _ _ _ _ _ c.tree.ensures c.deref.ensures.value c.deref-2.ensures.value in
+    let after = same ∙ along now c.args.plan.now m of in
+    let tree_is : grid_of c.in-Ok.tree ≡ new_grid (marked m) = c.in-Ok.ensures.tree ∙ after in
+    let moved_is : c.in-Ok-on_tree.new.told.grid ≡ new_grid (marked m) = c.in-Ok-on_tree.ensures.grid_is ∙ tree_is in
+    let new_is : new.told.grid ≡ new_grid (marked m) = ap (λ (t : Told). t.grid) c.move_all.ensures.told ∙ moved_is in
+    let valid : Valid (new_grid (marked m)) = subst Valid tree_is (known c.in-Ok.tree).valid in (
+      subst FewNodes after c.in-Ok.ensures.few,
+      excess_is m of.valid (of.world.faces c.requires.cells.0) (of.world.edges c.requires.cells.1) valid
+          ∙ first_of now new.told.grid m (Some c.in-Some.stop) of.world.grid of.world.cells new_is (sym (c.move_all.ensures.stop m.cells of.world.contents) ∙ c.in-Some.is),
+    )
+
 pub returns-in-None-clause-mesh : goal.returns-in-None-clause-mesh
 returns-in-None-clause-mesh g c m of =
     let now = c.args.world.now in
@@ -68,9 +92,8 @@ returns-in-None-clause-mesh g c m of =
     record {
       few = subst FewNodes (same ∙ along now c.args.plan.now m of) c.in-Ok.ensures.few;
       in_range =
-          subst (λ n. all_stop m.grid (new_grid (marked m)) m.cells n ≡ None) of.world.cells
-          (subst (λ h. all_stop h (new_grid (marked m)) m.cells now.told.counts.cells ≡ None) of.world.grid
-          (subst (λ h. all_stop now.told.grid h m.cells now.told.counts.cells ≡ None) new_is (sym (c.move_all.ensures.stop m.cells of.world.contents) ∙ none)));
+          excess_is m of.valid (of.world.faces c.requires.cells.0) (of.world.edges c.requires.cells.1) valid
+          ∙ first_of now new.told.grid m None of.world.grid of.world.cells new_is (sym (c.move_all.ensures.stop m.cells of.world.contents) ∙ none);
       world = record {
         grid = new_is;
         cells = cells ∙ of.world.cells;

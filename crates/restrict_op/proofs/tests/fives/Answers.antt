@@ -1,4 +1,4 @@
-use Rattle.std.proofs.Common.{rules, ◌≡◌, List, ℤ, pos, sym, subst}
+use Rattle.std.proofs.Common.{rules, ◌≡◌, pos, sym, subst}
 use Rattle.std.specs.Prelude.{replicate}
 use Rattle.mesh_model.specs.Fields.Octants.{SumsAreSmall}
 use Rattle.mesh_model.specs.Fields.ArrayPlaces.{cell_extents, number_at}
