@@ -40,7 +40,7 @@ use Rattle.amr_engine.specs.declared.hierarchy.Hierarchy.{Hierarchy}
 use Rattle.amr_engine.specs.Contents.{IsUniform, KeepsLimits, content_in, place}
 use Rattle.amr_engine.specs.EngineMesh.{engine_mesh}
 use Rattle.amr_engine.specs.Growth as growth
-use Rattle.amr_engine.specs.Growth.{HasHierarchy, Regrids, grid_in}
+use Rattle.amr_engine.specs.Growth.{HasHierarchy, Regrids}
 use Rattle.amr_engine.specs.Stopping.{Changes, MayStop, stopped_by}
 use Rattle.amr_engine.specs.UniformMesh.{uniform_mesh}
 
@@ -81,7 +81,7 @@ changes_lifted result d g contents new_contents outs new_outs refine derefine co
 -- ---- marks
 
 abbrev pub mesh_in : Declared → List (List ℤ) → List ℤ → Hierarchy → Mesh
-mesh_in d contents outs h = engine_mesh d (grid_in h) contents outs (refine_of (grid_in h) h.marks) (derefine_of (grid_in h) h.marks)
+mesh_in d contents outs h = engine_mesh d (grid_of h.tree) contents outs (refine_of (grid_of h.tree) h.marks) (derefine_of (grid_of h.tree) h.marks)
 
 pub has_own : (d : Declared) (contents : List (List ℤ)) (outs : List ℤ) (h : Hierarchy) → HasHierarchy (mesh_in d contents outs h) h
 unfolding engine_mesh
@@ -92,7 +92,7 @@ remarked : (d : Declared) (contents : List (List ℤ)) (outs : List ℤ) (old ne
     mesh_in d contents outs new ≡ with_marks (mesh_in d contents outs old) refine derefine
 unfolding engine_mesh
 remarked d contents outs old new refine derefine has =
-    sym (ap (λ g. engine_mesh d g contents outs refine derefine) has.grid ∙ ap₂ (engine_mesh d (grid_in new) contents outs) (λ i b. has.refine b i) (λ i b. has.derefine b i))
+    sym (ap (λ g. engine_mesh d g contents outs refine derefine) has.grid ∙ ap₂ (engine_mesh d (grid_of new.tree) contents outs) (λ i b. has.refine b i) (λ i b. has.derefine b i))
 
 same_marks : (d : Declared) (contents : List (List ℤ)) (outs : List ℤ) (old new : Hierarchy) → HasHierarchy (mesh_in d contents outs old) new → mesh_in d contents outs new ≡ mesh_in d contents outs old
 unfolding engine_mesh
@@ -112,12 +112,12 @@ derefine_changes (Ok done) d contents outs old new at marks = (marks.0, remarked
 derefine_changes (Err cause) d contents outs old new at marks = (marks.0, same_marks d contents outs old new marks.1)
 
 -- marks leave the grid
-pub refine_grid : (result : Result (Unit {0}) Cause) (d : Declared) (contents : List (List ℤ)) (outs : List ℤ) (old new : Hierarchy) (at : BlockAt) → growth.Marks result (mesh_in d contents outs old) (MarkRefine at) new → grid_in new ≡ grid_in old
+pub refine_grid : (result : Result (Unit {0}) Cause) (d : Declared) (contents : List (List ℤ)) (outs : List ℤ) (old new : Hierarchy) (at : BlockAt) → growth.Marks result (mesh_in d contents outs old) (MarkRefine at) new → grid_of new.tree ≡ grid_of old.tree
 unfolding engine_mesh mark_refine
 refine_grid (Ok done) d contents outs old new at marks = sym marks.1.grid
 refine_grid (Err cause) d contents outs old new at marks = sym marks.1.grid
 
-pub derefine_grid : (result : Result (Unit {0}) Cause) (d : Declared) (contents : List (List ℤ)) (outs : List ℤ) (old new : Hierarchy) (at : BlockAt) → growth.Marks result (mesh_in d contents outs old) (MarkDerefine at) new → grid_in new ≡ grid_in old
+pub derefine_grid : (result : Result (Unit {0}) Cause) (d : Declared) (contents : List (List ℤ)) (outs : List ℤ) (old new : Hierarchy) (at : BlockAt) → growth.Marks result (mesh_in d contents outs old) (MarkDerefine at) new → grid_of new.tree ≡ grid_of old.tree
 unfolding engine_mesh mark_derefine
 derefine_grid (Ok done) d contents outs old new at marks = sym marks.1.grid
 derefine_grid (Err cause) d contents outs old new at marks = sym marks.1.grid
@@ -152,7 +152,7 @@ module _ (d : Declared) (contents : List (List ℤ)) (outs : List ℤ) (old : Hi
 
   no_content : (v : ℕ) (c : CellAt) → before.cells v c ≡ pos 0
   unfolding engine_mesh
-  no_content v c = nothing_in d (grid_in old) contents v c (let e = uniform.each in omega (arith, e, bare))
+  no_content v c = nothing_in d (grid_of old.tree) contents v c (let e = uniform.each in omega (arith, e, bare))
 
   no_out : (v : ℕ) → before.outs v ≡ pos 0
   unfolding engine_mesh
@@ -184,12 +184,12 @@ module _ (d : Declared) (contents : List (List ℤ)) (outs : List ℤ) (old : Hi
   }
 
   -- the mesh after
-  regrid_is : (new : Hierarchy) → grid_in new ≡ new_grid (marked before) → HasHierarchy (regrid before) new → mesh_in d contents outs new ≡ regrid before
+  regrid_is : (new : Hierarchy) → grid_of new.tree ≡ new_grid (marked before) → HasHierarchy (regrid before) new → mesh_in d contents outs new ≡ regrid before
   unfolding engine_mesh
   regrid_is new e has = λ i. record {
     grid = e i;
     names = d.names;
-    cells = λ v c. (nothing_in d (grid_in new) contents v c (let k = uniform.each in omega (arith, k, bare)) ∙ sym (new_cell v c)) i;
+    cells = λ v c. (nothing_in d (grid_of new.tree) contents v c (let k = uniform.each in omega (arith, k, bare)) ∙ sym (new_cell v c)) i;
     outs = λ v. get_or outs v (pos 0);
     faces = λ f. sym (new_face f) i;
     edges = λ f. sym (new_edge f) i;
@@ -206,14 +206,14 @@ module _ (d : Declared) (contents : List (List ℤ)) (outs : List ℤ) (old : Hi
   regrows (Err cause) new told = (told.0, same_marks d contents outs old new told.1)
 
   -- the shape stays
-  pub same_shape : (result : Result (Unit {0}) Cause) (new : Hierarchy) → Regrids result before new → (grid_in new).shape ≡ (grid_in old).shape
+  pub same_shape : (result : Result (Unit {0}) Cause) (new : Hierarchy) → Regrids result before new → (grid_of new.tree).shape ≡ (grid_of old.tree).shape
   unfolding engine_mesh
   same_shape (Ok done) new told = ap (λ g. g.shape) told.0
   same_shape (Err cause) new told = sym (ap (λ g. g.shape) told.1.grid)
 
 -- ---- validity
 
-pub whole_valid : (d : Declared) (contents : List (List ℤ)) (outs : List ℤ) (h : Hierarchy) → KeepsLimits d → IsUniform d contents outs → InRange (uniform_mesh d contents outs) → (grid_in h).shape ≡ d.shape → (0 < length d.names.cells → grid_in h ≡ start_grid d.shape) →
+pub whole_valid : (d : Declared) (contents : List (List ℤ)) (outs : List ℤ) (h : Hierarchy) → KeepsLimits d → IsUniform d contents outs → InRange (uniform_mesh d contents outs) → (grid_of h.tree).shape ≡ d.shape → (0 < length d.names.cells → grid_of h.tree ≡ start_grid d.shape) →
     ValidMesh (mesh_in d contents outs h)
 unfolding engine_mesh uniform_mesh
 whole_valid d contents outs h limits uniform range shaped roots =
@@ -223,13 +223,13 @@ whole_valid d contents outs h limits uniform range shaped roots =
       order = tree.order;
       nodes = tree.few;
       numbers = record {
-        cells = λ v c off. off_leaf (grid_in h) (content_in d.shape (get_or contents v [])) c off;
+        cells = λ v c off. off_leaf (grid_of h.tree) (content_in d.shape (get_or contents v [])) c off;
         faces = λ f off. refl;
         edges = λ e off. refl;
       };
       declared = record {
         few = limits.few;
-        cells = λ v far c. nothing_in d (grid_in h) contents v c (let e = uniform.each in omega (arith, e, far));
+        cells = λ v far c. nothing_in d (grid_of h.tree) contents v c (let e = uniform.each in omega (arith, e, far));
         outs = λ v far. get_or-eq_default outs (pos 0) (let e = uniform.flowed in omega (arith, e, far));
         faces = λ none f. refl;
         edges = λ none e. refl;
@@ -237,7 +237,7 @@ whole_valid d contents outs h limits uniform range shaped roots =
       range = record {
         cells = λ v c. elim (cases_lt v (length d.names.cells)) [
           | inl there ↦ subst (λ g. Within (2 ^ 40) (on_cells g (content_in d.shape (get_or contents v [])) c)) (sym (roots (omega (arith, there)))) (range.cells v c)
-          | inr far ↦ zero_small (2 ^ 40) _ (nothing_in d (grid_in h) contents v c (let e = uniform.each in omega (arith, e, far)))
+          | inr far ↦ zero_small (2 ^ 40) _ (nothing_in d (grid_of h.tree) contents v c (let e = uniform.each in omega (arith, e, far)))
         ];
         outs = range.outs;
         faces = range.faces;

@@ -15,10 +15,6 @@ use Rattle.amr_engine.specs.declared.cause.Cause.{Cause}
 use Rattle.amr_engine.specs.declared.hierarchy.Hierarchy.{Hierarchy}
 use Rattle.amr_engine.specs.Stopping.{MayStop, stopped_by}
 
--- the grid
-abbrev pub grid_in : Hierarchy → Grid
-grid_in h = grid_of h.tree
-
 -- the mesh has this tree and these marks
 abbrev pub HasHierarchy : Mesh → Hierarchy → Type 0
 HasHierarchy m h = HasMarks (marked m) h.tree h.marks
@@ -30,5 +26,5 @@ Marks (Err cause) m command new = MayStop (stopped_by cause) m command × HasHie
 
 -- the tree is that after regrid, without marks; or the command is stopped, and tree and marks stay
 abbrev pub Regrids : Result (Unit {0}) Cause → Mesh → Hierarchy → Type 0
-Regrids (Ok done) m new = (grid_in new ≡ new_grid (marked m)) × FewNodes (new_grid (marked m)) × ((m' : Mesh) → m'.grid ≡ new_grid (marked m) → ((b : BlockAt) → m'.refine b ≡ false) → ((b : BlockAt) → m'.derefine b ≡ false) → HasHierarchy m' new)
+Regrids (Ok done) m new = (grid_of new.tree ≡ new_grid (marked m)) × FewNodes (new_grid (marked m)) × ((m' : Mesh) → m'.grid ≡ new_grid (marked m) → ((b : BlockAt) → m'.refine b ≡ false) → ((b : BlockAt) → m'.derefine b ≡ false) → HasHierarchy m' new)
 Regrids (Err cause) m new = MayStop (stopped_by cause) m Regrid × HasHierarchy m new

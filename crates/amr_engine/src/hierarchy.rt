@@ -22,7 +22,7 @@ pub struct Hierarchy {
 }
 
 impl Hierarchy {
-    ghost use Rattle.amr_engine.specs.Growth.{HasHierarchy, Marks as marks_leaf, Regrids, grid_in};
+    ghost use Rattle.amr_engine.specs.Growth.{HasHierarchy, Marks as marks_leaf, Regrids};
     ghost use Rattle.mesh_model.specs.Geometry.Limits.{IsShape};
     ghost use Rattle.mesh_model.specs.Fields.Plain.{Mesh};
     ghost use Rattle.mesh_model.specs.Tree.Start.{start_grid};
@@ -34,7 +34,7 @@ impl Hierarchy {
     /// The roots of a shape, without marks.
     pub fn new(alloc: Global, shape: Shape) -> Result<Hierarchy, OutOfMemory>
         requires { IsShape shape }
-        ensures grid { IfOk result (λ hierarchy. grid_in hierarchy ≡ start_grid shape) }
+        ensures grid { IfOk result (λ hierarchy. grid_of hierarchy.tree ≡ start_grid shape) }
         ensures start { IfOk result (λ hierarchy. (names : VariableNames) → HasHierarchy (start_mesh shape names) hierarchy) }
     {
         let tree = Tree::roots(alloc, shape)?;
@@ -44,7 +44,7 @@ impl Hierarchy {
 
     /// The tree.
     pub fn tree(&self) -> &Tree
-        ensures { grid_of result.now ≡ grid_in self.now }
+        ensures { grid_of result.now ≡ grid_of self.now.tree }
     {
         &self.tree
     }

@@ -11,8 +11,8 @@ use Rattle.mesh_model.specs.declared.run.stops.Refusal.TheVariants as why
 use Rattle.mesh_model.specs.Fields.VariableNames.{VariableNames}
 use Rattle.amr_program.specs.declared.status.Status.{Status}
 use Rattle.amr_program.specs.declared.status.Status.TheVariants as status
-use Rattle.amr_program.specs.declared.refusal.Refusal.{Refusal}
-use Rattle.amr_program.specs.declared.refusal.Refusal.TheVariants as refusals
+use Rattle.amr_program.specs.declared.not_run.NotRun.{NotRun}
+use Rattle.amr_program.specs.declared.not_run.NotRun.TheVariants as reasons
 use Rattle.amr_program.specs.Answer.{IsAccepted, IsAnswer, IsRefused, IsStoppedWith, MayPrint, MayWant, TookBeforeMemory, TookPart, admitted, answer_of, first_texts, ending, most_read, plain_answer, read_in, script_in, status_of, stop_in}
 use Rattle.amr_program.specs.Lines.{memory_line, read_line, words_line}
 use Rattle.amr_program.proofs.Commands.{at_first}
@@ -56,13 +56,13 @@ unfolding of_script
 ends_with names None = (refl, (λ e. cc))
 ends_with names (Some refused) = let s = stops_with refused.why in (s.0, s.2)
 
-answer_status : (read : Result PlainScript Refusal) → of_script (answer_of read).status ≡ true
+answer_status : (read : Result PlainScript NotRun) → of_script (answer_of read).status ≡ true
 unfolding of_script
 answer_status (Ok s) = (ends_with s.declared.names (stop_in s)).0
 answer_status (Err f) = refl
 
 -- no other status is a script's answer
-not_answer : (read : Result PlainScript Refusal) (result other : Status) → result ≡ (answer_of read).status → result ≡ other → of_script other ≡ false → ⊥
+not_answer : (read : Result PlainScript NotRun) (result other : Status) → result ≡ (answer_of read).status → result ≡ other → of_script other ≡ false → ⊥
 not_answer read result other is e never =
     let ever : of_script other ≡ true = subst (λ s. of_script s ≡ true) (sym is ∙ e) (answer_status read) in
     let odd : true ≡ false = sym ever ∙ never in cc
@@ -84,8 +84,8 @@ unfolding of_script
 memory_no = refl
 
 -- the script by whether it is built
-abbrev admitted_by : Bool → PlainScript → Result PlainScript Refusal
-admitted_by built s = if built then Ok s else Err refusals.NotBuilt
+abbrev admitted_by : Bool → PlainScript → Result PlainScript NotRun
+admitted_by built s = if built then Ok s else Err reasons.NotBuilt
 
 refused_by : (built : Bool) (s : PlainScript) → (answer_of (admitted_by built s)).status ≡ status.Script → built ≡ false
 refused_by true s e = absurd ((ends_with s.declared.names (stop_in s)).1 e)
@@ -108,9 +108,9 @@ stopped_by : (names : VariableNames) (o whole : Option Refused) (kind : Status) 
 stopped_by names None whole kind e is other = absurd (other (sym is))
 stopped_by names (Some refused) whole kind e is other = (refused, e, is)
 
-stopped_read : (read : Result PlainScript Refusal) (kind : Status) → (answer_of read).status ≡ kind → kind ≢ status.Done → kind ≢ status.Script → IsStoppedWith kind read
+stopped_read : (read : Result PlainScript NotRun) (kind : Status) → (answer_of read).status ≡ kind → kind ≢ status.Done → kind ≢ status.Script → IsStoppedWith kind read
 stopped_read (Ok s) kind is not_done not_script = stopped_by s.declared.names (stop_in s) (stop_in s) kind refl is not_done
-stopped_read (Err refusal) kind is not_done not_script = absurd (not_script (sym is))
+stopped_read (Err reason) kind is not_done not_script = absurd (not_script (sym is))
 
 words_answer : (words : List (List ℕ)) (all : List ℕ) (result : Status) (w : Written) → words ≢ [] → result ≡ status.Words → Takes w.before words_line w.after → IsAnswer (plain_answer words all) result w.before w.after
 words_answer [] all result w some e takes = absurd (some refl)
@@ -244,7 +244,7 @@ module _ (words : List (List ℕ)) (result : Status) (s : Source) (w : Written) 
     | inr e ↦ always s.before _ (λ all. line_part memory_line e.1 all (inr (o.none, inr (0, at_first (script_in all), no_texts (script_in all)))))
   ]
     where
-      no_texts : (read : Result PlainScript Refusal) → memory_line ≡ first_texts read 0 ++ memory_line
+      no_texts : (read : Result PlainScript NotRun) → memory_line ≡ first_texts read 0 ++ memory_line
       no_texts (Ok script) = refl
       no_texts (Err fault) = refl
   part (inr (inr (inr o))) is = elim o.came [
@@ -269,7 +269,7 @@ module _ (words : List (List ℕ)) (result : Status) (s : Source) (w : Written) 
     | inr e ↦ absurd (cc e.0)
   ]
     where
-      no_texts : (read : Result PlainScript Refusal) → memory_line ≡ first_texts read 0 ++ memory_line
+      no_texts : (read : Result PlainScript NotRun) → memory_line ≡ first_texts read 0 ++ memory_line
       no_texts (Ok script) = refl
       no_texts (Err fault) = refl
   memory (inr (inr (inr o))) is = elim o.came [

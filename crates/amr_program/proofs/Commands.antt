@@ -32,10 +32,10 @@ use Rattle.outside_io.specs.Moved.{Rose, Takes, TakesPrefix}
 use Rattle.outside_io.proofs.Moving.{takes_more}
 use Rattle.amr_program.specs.declared.status.Status.{Status}
 use Rattle.amr_program.specs.declared.status.Status.TheVariants as status
-use Rattle.amr_program.specs.declared.refusal.Refusal.{Refusal}
-use Rattle.amr_program.specs.declared.refusal.Refusal.TheVariants as refusals
+use Rattle.amr_program.specs.declared.not_run.NotRun.{NotRun}
+use Rattle.amr_program.specs.declared.not_run.NotRun.TheVariants as reasons
 use Rattle.amr_program.specs.Answer.{AlongRun, MayWant, admitted, answer_of, done_in, ending, first_texts, most_read, read_in, script_in, status_of, stop_in}
-use Rattle.amr_program.specs.Lines.{memory_line, refusal_line}
+use Rattle.amr_program.specs.Lines.{memory_line, not_run_line}
 use Rattle.amr_program.specs.Outcome.{Came, Ended, RunStops, Stopped}
 use Rattle.mesh_model.specs.Run.Runs.{AtEachCommand, declared_in, done, first_mesh, mesh_after, mesh_after_all, stop, text_of, texts}
 
@@ -163,7 +163,7 @@ run_stops by.Memory m now lines i number d a b c f g h l number_is so_far before
 -- ---- what came of a script
 
 -- memory was refused after the texts of the first commands
-pub starved_after : (read : Result PlainScript Refusal) (k : ℕ) → MayWant read k → (result : Status) (a b c : Option (List ℕ)) (f g h : ℕ) → Takes a (first_texts read k) b → g ≡ f → Ended status.OutOfMemory memory_line result (record { before = b; after = c; faults = g; new_faults = h }) →
+pub starved_after : (read : Result PlainScript NotRun) (k : ℕ) → MayWant read k → (result : Status) (a b c : Option (List ℕ)) (f g h : ℕ) → Takes a (first_texts read k) b → g ≡ f → Ended status.OutOfMemory memory_line result (record { before = b; after = c; faults = g; new_faults = h }) →
     Came read result (record { before = a; after = c; faults = f; new_faults = h })
 starved_after read k wants result a b c f g h before calm (inl e) = inr (inl (record { status_is = e.0; commands = k; wants = wants; wrote = record { takes = takes_more a b c (first_texts read k) memory_line before e.1.takes; calm = e.1.calm ∙ calm } }))
 starved_after read k wants result a b c f g h before calm (inr e) =
@@ -174,27 +174,27 @@ nothing_taken : (a : Option (List ℕ)) → Takes a [] a
 nothing_taken None = tt
 nothing_taken (Some xs) = ap Some (sym (append-nil xs))
 
-no_texts : (read : Result PlainScript Refusal) → first_texts read 0 ≡ []
+no_texts : (read : Result PlainScript NotRun) → first_texts read 0 ≡ []
 no_texts (Ok script) = refl
 no_texts (Err fault) = refl
 
 -- memory may be wanting before the first command
-pub at_first : (read : Result PlainScript Refusal) → MayWant read 0
+pub at_first : (read : Result PlainScript NotRun) → MayWant read 0
 at_first (Ok script) = inl refl
 at_first (Err fault) = refl
 
 -- memory was refused before the first command
-pub starved_first : (read : Result PlainScript Refusal) (result : Status) (w : Written) → Ended status.OutOfMemory memory_line result w → Came read result w
+pub starved_first : (read : Result PlainScript NotRun) (result : Status) (w : Written) → Ended status.OutOfMemory memory_line result w → Came read result w
 starved_first read result w e = starved_after read 0 (at_first read) result w.before w.before w.after w.faults w.faults w.new_faults (subst (λ t. Takes w.before t w.before) (sym (no_texts read)) (nothing_taken w.before)) refl e
 
 -- the script is not run
-pub refused_came : (refusal : Refusal) (result : Status) (w : Written) → Ended status.Script (refusal_line refusal) result w → Came (Err refusal) result w
-refused_came refusal result w (inl e) = inl (record { status_is = e.0; wrote = e.1 })
-refused_came refusal result w (inr e) = inr (inr (record { status_is = e.0; text = refusal_line refusal; text_is = inl refl; wrote = e.1 }))
+pub refused_came : (reason : NotRun) (result : Status) (w : Written) → Ended status.Script (not_run_line reason) result w → Came (Err reason) result w
+refused_came reason result w (inl e) = inl (record { status_is = e.0; wrote = e.1 })
+refused_came reason result w (inr e) = inr (inr (record { status_is = e.0; text = not_run_line reason; text_is = inl refl; wrote = e.1 }))
 
 -- the line says why
-pub refused_said : (refusal : Refusal) (line : List ℕ) (result : Status) (w : Written) → line ≡ refusal_line refusal → Ended status.Script line result w → Came (Err refusal) result w
-refused_said refusal line result w is e = refused_came refusal result w (subst (λ t. Ended status.Script t result w) is e)
+pub refused_said : (reason : NotRun) (line : List ℕ) (result : Status) (w : Written) → line ≡ not_run_line reason → Ended status.Script line result w → Came (Err reason) result w
+refused_said reason line result w is e = refused_came reason result w (subst (λ t. Ended status.Script t result w) is e)
 
 -- how the run of a script's lines from its start mesh stopped
 pub at_start : (s : PlainScript) (stopper : StoppedBy) (line : ℕ) (m : Mesh) (lines : List Line) (w : Written) → m ≡ first_mesh s → lines ≡ s.lines → RunStops stopper line m lines w → RunStops stopper line (first_mesh s) s.lines w
@@ -297,7 +297,7 @@ first_is s = refl
 
 -- what holds at each command of a run from a valid mesh holds along a script that is run
 module _ (R : Mesh → Command → Mesh → Type 0) (law : (m : Mesh) (lines : List Line) → ValidMesh m → All (IsLineOf (declared_in m)) lines → AtEachCommand R m (done m lines)) where
-  kept_by : (built : Bool) (s : PlainScript) → InLimits s.declared → All (IsLineOf s.declared) s.lines → AlongRun R (if built then Ok s else Err refusals.NotBuilt)
+  kept_by : (built : Bool) (s : PlainScript) → InLimits s.declared → All (IsLineOf s.declared) s.lines → AlongRun R (if built then Ok s else Err reasons.NotBuilt)
   kept_by true s limits lines = law (first_mesh s) s.lines (start_mesh_valid s.declared.shape s.declared.names limits.shape limits.names.few) lines
   kept_by false s limits lines = tt
 

@@ -14,9 +14,9 @@ use Rattle.mesh_model.specs.declared.run.stops.Refusal.TheVariants as why
 use Rattle.outside_io.specs.Moved.{Takes, TakesPrefix}
 use Rattle.amr_program.specs.declared.status.Status.{Status}
 use Rattle.amr_program.specs.declared.status.Status.TheVariants.{Done, Words, Script, Stopped, Level}
-use Rattle.amr_program.specs.declared.refusal.Refusal.{Refusal}
-use Rattle.amr_program.specs.declared.refusal.Refusal.TheVariants as refusals
-use Rattle.amr_program.specs.Lines.{memory_line, read_line, refusal_line, words_line}
+use Rattle.amr_program.specs.declared.not_run.NotRun.{NotRun}
+use Rattle.amr_program.specs.declared.not_run.NotRun.TheVariants as reasons
+use Rattle.amr_program.specs.Lines.{memory_line, read_line, not_run_line, words_line}
 
 -- the status, and all that is printed
 pub record Answer : Type 0 where
@@ -32,12 +32,12 @@ abbrev pub read_in : List ℕ → Result PlainScript Fault
 read_in bytes = script_of None (take most_read bytes)
 
 -- a script that was read is run where it is built, by one rank and one worker
-abbrev pub admitted : Result PlainScript Fault → Result PlainScript Refusal
-admitted (Ok s) = if is_built s 1 1 then Ok s else Err refusals.NotBuilt
-admitted (Err fault) = Err (refusals.Fault fault.line fault.reason)
+abbrev pub admitted : Result PlainScript Fault → Result PlainScript NotRun
+admitted (Ok s) = if is_built s 1 1 then Ok s else Err reasons.NotBuilt
+admitted (Err fault) = Err (reasons.Fault fault.line fault.reason)
 
 -- the script that is run, or why none is
-abbrev pub script_in : List ℕ → Result PlainScript Refusal
+abbrev pub script_in : List ℕ → Result PlainScript NotRun
 script_in bytes = admitted (read_in bytes)
 
 -- the status of a run that a refused command ends
@@ -62,12 +62,12 @@ abbrev pub stop_in : PlainScript → Option Refused
 stop_in s = stop (first_mesh s) s.lines
 
 -- what a script answers: the texts of the commands that are done, and how the run ends
-abbrev pub answer_of : Result PlainScript Refusal → Answer
+abbrev pub answer_of : Result PlainScript NotRun → Answer
 answer_of (Ok s) = record {
   status = (ending s.declared.names (stop_in s)).status;
   text = texts (first_mesh s) (done_in s) ++ (ending s.declared.names (stop_in s)).text;
 }
-answer_of (Err refusal) = record { status = Script; text = refusal_line refusal }
+answer_of (Err reason) = record { status = Script; text = not_run_line reason }
 
 -- no word is taken yet
 abbrev pub plain_answer : List (List ℕ) → List ℕ → Answer
@@ -90,14 +90,14 @@ IsAccepted (Ok s) = (is_built s 1 1 ≡ true) × (stop_in s ≡ None)
 IsAccepted (Err fault) = ⊥
 
 -- the script is run, and a command is refused with this status
-abbrev pub IsStoppedWith : Status → Result PlainScript Refusal → Type 0
+abbrev pub IsStoppedWith : Status → Result PlainScript NotRun → Type 0
 IsStoppedWith status (Ok s) = (refused : Refused) × (stop_in s ≡ Some refused) × (status_of refused.why ≡ status)
-IsStoppedWith status (Err refusal) = ⊥
+IsStoppedWith status (Err reason) = ⊥
 
 -- what the first k of the commands that are done print
-abbrev pub first_texts : Result PlainScript Refusal → ℕ → List ℕ
+abbrev pub first_texts : Result PlainScript NotRun → ℕ → List ℕ
 first_texts (Ok s) k = texts (first_mesh s) (take k (done_in s))
-first_texts (Err refusal) k = []
+first_texts (Err reason) k = []
 
 -- memory is wanting at the command after the first k: these are done, and it needs memory
 pub record WantsAfter (k : ℕ) (m : Mesh) (lines : List Line) : Type 0 where
@@ -108,9 +108,9 @@ pub record WantsAfter (k : ℕ) (m : Mesh) (lines : List Line) : Type 0 where
   pub wants : needs line.command ≡ TheMemory
 
 -- memory may be wanting after the first k commands: before all of them, or at one that needs it
-abbrev pub MayWant : Result PlainScript Refusal → ℕ → Type 0
+abbrev pub MayWant : Result PlainScript NotRun → ℕ → Type 0
 MayWant (Ok s) k = (k ≡ 0) ⊎ WantsAfter k (first_mesh s) s.lines
-MayWant (Err refusal) k = k ≡ 0
+MayWant (Err reason) k = k ≡ 0
 
 -- a text that ends where the source failed, or where memory was wanting
 abbrev pub MayEnd : List ℕ → Type 0 → List ℕ → Type 0
@@ -129,6 +129,6 @@ abbrev pub TookBeforeMemory : List ℕ → Option (List ℕ) → Option (List �
 TookBeforeMemory bytes before after = (k : ℕ) × MayWant (script_in bytes) k × Takes before (first_texts (script_in bytes) k ++ memory_line) after
 
 -- R holds at each command of the script's run that is done
-abbrev pub AlongRun : (Mesh → Command → Mesh → Type 0) → Result PlainScript Refusal → Type 0
+abbrev pub AlongRun : (Mesh → Command → Mesh → Type 0) → Result PlainScript NotRun → Type 0
 AlongRun R (Ok s) = AtEachCommand R (first_mesh s) (done_in s)
-AlongRun R (Err refusal) = Unit {0}
+AlongRun R (Err reason) = Unit {0}

@@ -1,16 +1,16 @@
 -- The last lines that a run writes.
 use Rattle.std.specs.Prelude.{ℕ, List, ◌∷◌, ◌++◌, codes, decimal, flat_map}
 use Rattle.mesh_model.specs.Language.Reasons.{reason_text}
-use Rattle.amr_program.specs.declared.refusal.Refusal.{Refusal}
-use Rattle.amr_program.specs.declared.refusal.Refusal.TheVariants.{Fault, NotBuilt}
+use Rattle.amr_program.specs.declared.not_run.NotRun.{NotRun}
+use Rattle.amr_program.specs.declared.not_run.NotRun.TheVariants.{Fault, NotBuilt}
 
 abbrev pub words_line : List ℕ
 words_line = codes "error: words; usage: amr [--ranks R] [--order K] [--workers W] [--restart | --sample K]\n"
 
 -- why a script is not run
-abbrev pub refusal_line : Refusal → List ℕ
-refusal_line (Fault line reason) = codes "error: script line " ++ decimal line ++ codes ": " ++ reason_text reason ++ codes "\n"
-refusal_line NotBuilt = codes "error: not built\n"
+abbrev pub not_run_line : NotRun → List ℕ
+not_run_line (Fault line reason) = codes "error: script line " ++ decimal line ++ codes ": " ++ reason_text reason ++ codes "\n"
+not_run_line NotBuilt = codes "error: not built\n"
 
 abbrev pub read_line : List ℕ
 read_line = codes "error: read failed\n"

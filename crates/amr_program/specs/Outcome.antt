@@ -13,7 +13,7 @@ use Rattle.mesh_model.specs.Fields.VariableNames.{VariableNames}
 use Rattle.outside_io.specs.Moved.{Rose}
 use Rattle.amr_program.specs.declared.status.Status.{Status}
 use Rattle.amr_program.specs.declared.status.Status.TheVariants as status
-use Rattle.amr_program.specs.declared.refusal.Refusal.{Refusal}
+use Rattle.amr_program.specs.declared.not_run.NotRun.{NotRun}
 use Rattle.amr_program.specs.Answer.{MayWant, WantsAfter, admitted, answer_of, first_texts, most_read, status_of}
 use Rattle.amr_program.specs.Lines.{memory_line, read_line, words_line}
 
@@ -34,26 +34,26 @@ Stopped by.Sink line names result w = (result ≡ status.WriteFault) × IsUntouc
 Stopped by.Memory line names result w = Ended status.OutOfMemory memory_line result w
 
 -- the answer came, with all of its text
-pub record Answered (read : Result PlainScript Refusal) (result : Status) (w : Written) : Type 0 where
+pub record Answered (read : Result PlainScript NotRun) (result : Status) (w : Written) : Type 0 where
   pub status_is : result ≡ (answer_of read).status
   pub wrote : Wrote (answer_of read).text w
 
 -- memory was refused at a command, or before the first
-pub record Starved (read : Result PlainScript Refusal) (result : Status) (w : Written) : Type 0 where
+pub record Starved (read : Result PlainScript NotRun) (result : Status) (w : Written) : Type 0 where
   pub status_is : result ≡ status.OutOfMemory
   pub commands : ℕ
   pub wants : MayWant read commands
   pub wrote : Wrote (first_texts read commands ++ memory_line) w
 
 -- the sink failed within the answer's text, or within the line that says that memory is wanting
-pub record Failed (read : Result PlainScript Refusal) (result : Status) (w : Written) : Type 0 where
+pub record Failed (read : Result PlainScript NotRun) (result : Status) (w : Written) : Type 0 where
   pub status_is : result ≡ status.WriteFault
   pub text : List ℕ
   pub text_is : (text ≡ (answer_of read).text) ⊎ ((k : ℕ) × MayWant read k × (text ≡ first_texts read k ++ memory_line))
   pub wrote : WrotePart text w
 
 -- what comes of a script that is run, or is not
-abbrev pub Came : Result PlainScript Refusal → Status → Written → Type 0
+abbrev pub Came : Result PlainScript NotRun → Status → Written → Type 0
 Came read result w = Answered read result w ⊎ (Starved read result w ⊎ Failed read result w)
 
 -- the source before and after, by the bytes that it has left and its faults

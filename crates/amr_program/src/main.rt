@@ -6,8 +6,8 @@ ghost use Rattle.std.specs.IoError.{error_kind};
 ghost use Rattle.std.specs.Prelude.{◌≡◌, ◌≢◌};
 ghost use Rattle.std.specs.Process.{exit_status};
 
+mod not_run;
 mod program;
-mod refusal;
 mod run;
 mod status;
 mod stop_line;

@@ -2,7 +2,7 @@
 
 ghost use Rattle.amr_engine.specs.Plain.{declared_of, plain};
 ghost use Rattle.amr_program.specs.Answer.{admitted, status_of};
-ghost use Rattle.amr_program.specs.Lines.{memory_line, read_line, refusal_line, words_line};
+ghost use Rattle.amr_program.specs.Lines.{memory_line, read_line, not_run_line, words_line};
 ghost use Rattle.amr_program.specs.Outcome.{Came, Ended, RunStops, Stopped};
 ghost use Rattle.amr_engine.specs.Stopping.{Wrote, stopped_by};
 ghost use Rattle.amr_engine.specs.Built.{IsBuiltLine, is_built};
@@ -12,7 +12,7 @@ ghost use Rattle.mesh_model.specs.Run.Runs.{done, stop, texts};
 ghost use Rattle.mesh_model.specs.Run.StopTexts.{stop_line};
 ghost use Rattle.std.specs.Prelude.{◌≡◌, true, All, IfErr, OnOk, None, Ok, Err};
 
-use crate::refusal::Refusal;
+use crate::not_run::NotRun;
 use crate::status::Status;
 use crate::stop_line::stop_text;
 use amr_engine::built::built;
@@ -21,7 +21,7 @@ use amr_engine::engine::Engine;
 use amr_report::Line;
 use mesh_model::language::names::Names;
 use mesh_model::language::script::Reason;
-use mesh_model::run::stops;
+use mesh_model::run::stops::Refusal;
 use outside_io::disk::Disk;
 use outside_io::sink::{Sink, write_all};
 use script_lang::reader::{ScriptStop, read_script};
@@ -80,7 +80,7 @@ fn run<K: Sink, D: Disk>(
 }
 
 /// Writes the last line of a run that a refused command ends.
-fn end_refused<K: Sink>(sink: &mut K, names: &Names, line: u32, why: stops::Refusal) -> Status
+fn end_refused<K: Sink>(sink: &mut K, names: &Names, line: u32, why: Refusal) -> Status
     ensures { Ended (status_of why) (stop_line names.now line why) result (record { before = K.taken sink.old; after = K.taken sink.new; faults = K.faults sink.old; new_faults = K.faults sink.new }) }
 {
     let text = stop_text(names, line, why);
@@ -119,7 +119,7 @@ fn run_script<K: Sink, D: Disk>(alloc: Global, script: Script, sink: &mut K, dis
 
 /// The line that names a fault of the script.
 fn fault_line(line: u32, reason: Reason) -> Line
-    ensures { result ≡ refusal_line (Refusal.Fault line reason) }
+    ensures { result ≡ not_run_line (NotRun.Fault line reason) }
 {
     let mut text = Line::begin("error: script line");
     text.push_number(line);
@@ -130,15 +130,15 @@ fn fault_line(line: u32, reason: Reason) -> Line
 }
 
 /// Says why the script is not run.
-fn refuse<K: Sink>(refusal: Refusal, sink: &mut K) -> Status
-    ensures { Came (Err refusal) result (record { before = K.taken sink.old; after = K.taken sink.new; faults = K.faults sink.old; new_faults = K.faults sink.new }) }
+fn refuse<K: Sink>(reason: NotRun, sink: &mut K) -> Status
+    ensures { Came (Err reason) result (record { before = K.taken sink.old; after = K.taken sink.new; faults = K.faults sink.old; new_faults = K.faults sink.new }) }
 {
-    match refusal {
-        Refusal::Fault { line, reason } => {
+    match reason {
+        NotRun::Fault { line, reason } => {
             let text = fault_line(line, reason);
             end_with(sink, text.as_bytes(), Status::Script)
         }
-        Refusal::NotBuilt => end(sink, NOT_BUILT_LINE, Status::Script),
+        NotRun::NotBuilt => end(sink, NOT_BUILT_LINE, Status::Script),
     }
 }
 
@@ -154,8 +154,8 @@ pub fn answer_script<K: Sink, D: Disk>(
 {
     match read_script(alloc, None, bytes) {
         Ok(script) if built(&script, 1, 1) => run_script(alloc, script, sink, disk),
-        Ok(_) => refuse(Refusal::NotBuilt, sink),
-        Err(ScriptStop::Fault { line, reason }) => refuse(Refusal::Fault { line, reason }, sink),
+        Ok(_) => refuse(NotRun::NotBuilt, sink),
+        Err(ScriptStop::Fault { line, reason }) => refuse(NotRun::Fault { line, reason }, sink),
         Err(ScriptStop::OutOfMemory) => end(sink, MEMORY_LINE, Status::OutOfMemory),
     }
 }

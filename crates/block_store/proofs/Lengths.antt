@@ -6,7 +6,7 @@ use Rattle.amr_num.specs.declared.Axis.{Axis}
 use Rattle.amr_num.specs.declared.Axis.TheVariants.{X, Y, Z}
 use Rattle.mesh_model.specs.declared.fields.values.Var.{Var}
 use Rattle.mesh_model.specs.declared.fields.values.Var.TheVariants.{Cell, Face, Edge, CellWork, FaceWork, EdgeWork}
-use Rattle.mesh_model.specs.Fields.Arrays.{Counts, HasVar, array_number, block_in, var_length}
+use Rattle.mesh_model.specs.Fields.Arrays.{Counts, HasVar, array_count, array_number, block_in, var_length}
 use Rattle.mesh_model.specs.Geometry.Coordinates.{axis_index}
 use Rattle.mesh_model.specs.Fields.ArrayPlaces.{edge_extents, face_extents, side, size_of}
 use Rattle.block_store.specs.Making.{AreZeroBlocks, IsArrayLength, IsZeroBlock}
@@ -17,7 +17,7 @@ axis_below Y = omega arith
 axis_below Z = omega arith
 
 -- each variable has its array among those of a block
-pub number_below : (counts : Counts) (var : Var) → HasVar counts var → array_number var < 13 + counts.cells
+pub number_below : (counts : Counts) (var : Var) → HasVar counts var → array_number var < array_count counts
 number_below counts (Cell v) has = omega arith
 number_below counts (Face a) has = let l = axis_below a in omega arith
 number_below counts (Edge a) has = let l = axis_below a in omega arith
@@ -86,7 +86,7 @@ one_more_array n g counts count long block xs so_far is zeros = record {
       (array_number var) h refl;
 }
 
-pub whole_block : (n g : ℕ) (counts : Counts) (count : ℕ) (block : List (List ℤ)) → AreZeroBelow n g counts count block → count ≡ 13 + counts.cells → IsZeroBlock n g counts block
+pub whole_block : (n g : ℕ) (counts : Counts) (count : ℕ) (block : List (List ℤ)) → AreZeroBelow n g counts count block → count ≡ array_count counts → IsZeroBlock n g counts block
 whole_block n g counts count block done e = record {
   size = done.size ∙ e;
   each = λ var has. done.each var has (let l = number_below counts var has in omega arith);

@@ -5,7 +5,7 @@ use Rattle.std.proofs.lemmas.Bool.{cases_lt, cases_order}
 use Rattle.std.proofs.lemmas.List.{get_or-append_right, get_or-replicate, get_or-set_other, get_or-set_same, get_or_append_left, get_or_past, length-append, length-replicate, length-set, take_all}
 use Rattle.std.proofs.lemmas.List.Sums.{count_by-le-length, count_by_more_no, sum_by-append, sum_by-set}
 use Rattle.mesh_model.specs.declared.fields.values.Var.{Var}
-use Rattle.mesh_model.specs.Fields.Arrays.{Arrays, Counts, HasArray, HasVar, array_in, array_number, block_in, var_length, with_array}
+use Rattle.mesh_model.specs.Fields.Arrays.{Arrays, Counts, HasArray, HasVar, array_count, array_in, array_number, block_in, var_length, with_array}
 use Rattle.mesh_model.specs.Fields.ArrayPlaces.{IsSize}
 use Rattle.mesh_model.proofs.FieldLemmas.BlockArrays.{array_elsewhere, lengths_stay, some_places, there}
 use Rattle.block_store.specs.Held.{IsClearedBelow, pick}
@@ -153,7 +153,7 @@ module _ (n g : ℕ) (counts : Counts) (held : List Bool) (blocks : List (List (
           ];
         }
 
-  module _ (is : IsPool n g old free from) (on : get_or held slot false ≡ true) (cleared : List (List (List ℤ))) (done : IsClearedBelow (13 + counts.cells) blocks cleared slot) where
+  module _ (is : IsPool n g old free from) (on : get_or held slot false ≡ true) (cleared : List (List (List ℤ))) (done : IsClearedBelow (array_count counts) blocks cleared slot) where
     abbrev given : Arrays
     given = record { counts = counts; held = set held slot false; blocks = cleared }
 

@@ -1,7 +1,7 @@
 -- Arrays of zeros.
 use Rattle.std.specs.Prelude.{◌≡◌, ℕ, ◌+◌, ◌<◌, List, length, pos, replicate, ℤ, slice_index_or, []}
 use Rattle.mesh_model.specs.declared.fields.values.Var.{Var}
-use Rattle.mesh_model.specs.Fields.Arrays.{Counts, HasVar, array_number, block_in, var_length}
+use Rattle.mesh_model.specs.Fields.Arrays.{Counts, HasVar, array_count, array_number, block_in, var_length}
 
 -- the array with this number, where a block has it, is so long
 pub record IsArrayLength (n g : ℕ) (counts : Counts) (number long : ℕ) : Type 0 where
@@ -9,7 +9,7 @@ pub record IsArrayLength (n g : ℕ) (counts : Counts) (number long : ℕ) : Typ
 
 -- the arrays of a block are all of zeros
 pub record IsZeroBlock (n g : ℕ) (counts : Counts) (block : List (List ℤ)) : Type 0 where
-  pub size : length block ≡ 13 + counts.cells
+  pub size : length block ≡ array_count counts
   pub each : (var : Var) → HasVar counts var → slice_index_or block (array_number var) [] ≡ replicate (var_length n g var) (pos 0)
 
 -- so are those of so many blocks

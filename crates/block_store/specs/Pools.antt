@@ -1,7 +1,7 @@
 -- What a pool's calls make of its arrays, by slots.
 use Rattle.std.specs.Prelude.{◌≡◌, ℕ, ◌+◌, ◌<◌, ◌^◌, ◌↔◌, false, not, length, replicate, pos, slice_index_or, count_by, []}
 use Rattle.mesh_model.specs.declared.fields.values.Var.{Var}
-use Rattle.mesh_model.specs.Fields.Arrays.{Arrays, Counts, HasVar, IsHeld, array_in, block_in, var_length}
+use Rattle.mesh_model.specs.Fields.Arrays.{Arrays, Counts, HasVar, IsHeld, array_count, array_in, block_in, var_length}
 use Rattle.mesh_model.specs.Fields.ArrayPlaces.{IsSize}
 
 -- how many slots are free
@@ -47,7 +47,7 @@ pub record IsPool (n g : ℕ) (a : Arrays) (free from : ℕ) : Type 0 where
   pub size : IsSize n g
   pub slots : length a.blocks ≡ length a.held
   pub few : length a.held < 2 ^ 32
-  pub rooms : (slot : ℕ) → slot < length a.held → length (block_in a.blocks slot) ≡ 13 + a.counts.cells
+  pub rooms : (slot : ℕ) → slot < length a.held → length (block_in a.blocks slot) ≡ array_count a.counts
   pub whole : (var : Var) (slot : ℕ) → HasVar a.counts var → slot < length a.held → length (array_in a var slot) ≡ var_length n g var
   pub zero : (slot : ℕ) → slot < length a.held → slice_index_or a.held slot false ≡ false → IsZero n g a slot
   pub spare : free ≡ spare_of a

@@ -33,7 +33,7 @@ impl Layout {
 
     /// How many arrays a block has, with those of variables that are not there.
     pub(crate) fn arrays(&self) -> usize
-        ensures { result ≡ 13 + self.now.cells }
+        ensures { result ≡ arrays.array_count self.now }
     {
         13 + self.cells as usize
     }

@@ -1,5 +1,5 @@
 -- Worlds whose nodes hold the views of a field.
-use Rattle.std.specs.Prelude.{◌≡◌, ℕ, ◌+◌, ◌<◌, ◌^◌, true, List, length, ℤ, None}
+use Rattle.std.specs.Prelude.{◌≡◌, ℕ, ◌+◌, ◌<◌, ◌^◌, ◌↔◌, true, List, length, ℤ, None}
 use Rattle.amr_num.specs.declared.CellAt.{CellAt}
 use Rattle.amr_num.specs.Numbers.{Within, number_range}
 use Rattle.mesh_model.specs.declared.fields.values.Var.TheVariants.{Cell}
@@ -44,6 +44,6 @@ LeavesInRange w = (v node : ℕ) → v < w.told.counts.cells → IsLeafNode w.to
 pub record IsOfMesh (w : WorldState) (m : Mesh) : Type 0 where
   pub grid : w.told.grid ≡ m.grid
   pub cells : w.told.counts.cells ≡ length m.names.cells
-  pub faces : w.told.counts.faces ≡ 0 → m.names.face ≡ None
-  pub edges : w.told.counts.edges ≡ 0 → m.names.edge ≡ None
+  pub faces : (w.told.counts.faces ≡ 0) ↔ (m.names.face ≡ None)
+  pub edges : (w.told.counts.edges ≡ 0) ↔ (m.names.edge ≡ None)
   pub contents : (v : ℕ) → v < w.told.counts.cells → LeavesHold w v (m.cells v)

@@ -29,6 +29,10 @@ array_number (Face a) = 7 + axis_index a
 array_number (Edge a) = 10 + axis_index a
 array_number (Cell v) = 13 + v
 
+-- how many arrays a block has
+abbrev pub array_count : Counts → ℕ
+array_count n = 13 + n.cells
+
 -- the variables of the arrays, which keys have arrays, and the arrays of each key by the places of variables
 pub record Arrays : Type 0 where
   pub counts : Counts

@@ -72,7 +72,7 @@ returns-in-Some-clause-stop g c m of =
     let new_is : new.told.grid ≡ new_grid (marked m) = ap (λ (t : Told). t.grid) c.move_all.ensures.told ∙ moved_is in
     let valid : Valid (new_grid (marked m)) = subst Valid tree_is (known c.in-Ok.tree).valid in (
       subst FewNodes after c.in-Ok.ensures.few,
-      excess_is m of.valid (of.world.faces c.requires.cells.0) (of.world.edges c.requires.cells.1) valid
+      excess_is m of.valid (of.world.faces.0 c.requires.cells.0) (of.world.edges.0 c.requires.cells.1) valid
           ∙ first_of now new.told.grid m (Some c.in-Some.stop) of.world.grid of.world.cells new_is (sym (c.move_all.ensures.stop m.cells of.world.contents) ∙ c.in-Some.is),
     )
 
@@ -92,13 +92,13 @@ returns-in-None-clause-mesh g c m of =
     record {
       few = subst FewNodes (same ∙ along now c.args.plan.now m of) c.in-Ok.ensures.few;
       in_range =
-          excess_is m of.valid (of.world.faces c.requires.cells.0) (of.world.edges c.requires.cells.1) valid
+          excess_is m of.valid (of.world.faces.0 c.requires.cells.0) (of.world.edges.0 c.requires.cells.1) valid
           ∙ first_of now new.told.grid m None of.world.grid of.world.cells new_is (sym (c.move_all.ensures.stop m.cells of.world.contents) ∙ none);
       world = record {
         grid = new_is;
         cells = cells ∙ of.world.cells;
-        faces = λ zero. of.world.faces (sym (ap (λ (k : Counts). k.faces) counts) ∙ zero);
-        edges = λ zero. of.world.edges (sym (ap (λ (k : Counts). k.edges) counts) ∙ zero);
+        faces = (λ zero. of.world.faces.0 (sym (ap (λ (k : Counts). k.faces) counts) ∙ zero), λ none. ap (λ (k : Counts). k.faces) counts ∙ of.world.faces.1 none);
+        edges = (λ zero. of.world.edges.0 (sym (ap (λ (k : Counts). k.edges) counts) ∙ zero), λ none. ap (λ (k : Counts). k.edges) counts ∙ of.world.edges.1 none);
         contents = λ v below.
             let here : v < now.told.counts.cells = subst (λ k. v < k) cells below in
             new_leaves now new m v of.world.grid new_is valid (c.move_all.ensures.views none v (m.cells v) here (of.world.contents v here));

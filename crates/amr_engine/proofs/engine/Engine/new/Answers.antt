@@ -4,7 +4,7 @@ use Rattle.mesh_model.specs.Fields.Valid.{InRange}
 use Rattle.amr_engine.specs.Contents.{IsUniform, cell_count}
 use Rattle.amr_engine.specs.UniformMesh.{uniform_mesh}
 use Rattle.block_tree.specs.Marked.{derefine_of, refine_of}
-use Rattle.amr_engine.specs.Growth.{grid_in}
+use Rattle.block_tree.specs.GridOf.{grid_of}
 use Rattle.amr_engine.proofs.Whole.{at_roots_is, no_marks}
 use Rattle.amr_engine.proofs.Vectors.{contents_in}
 use Rattle.amr_engine.proofs.Filled.{zero_mesh}
@@ -16,7 +16,7 @@ returns-clause-mesh c =
     let d = c.args.declared in
     let h = c.in_ok-hierarchy.hierarchy in
     let start = c.in_ok-hierarchy.ensures.start d.names in
-    at_roots_is d (grid_in h) (contents_in c.in_ok-contents.contents.items) c.in_ok-outs.outs.items (refine_of (grid_in h) h.marks) (derefine_of (grid_in h) h.marks) c.in_ok-hierarchy.ensures.grid
+    at_roots_is d (grid_of h.tree) (contents_in c.in_ok-contents.contents.items) c.in_ok-outs.outs.items (refine_of (grid_of h.tree) h.marks) (derefine_of (grid_of h.tree) h.marks) c.in_ok-hierarchy.ensures.grid
     ∙ no_marks d (contents_in c.in_ok-contents.contents.items) c.in_ok-outs.outs.items _ _ (λ b. sym (start.refine b)) (λ b. sym (start.derefine b))
     ∙ ap₂ (uniform_mesh d) c.in_ok-contents.ensures c.in_ok-outs.ensures ∙ zero_mesh d c.cells-variables.result (cell_count d.shape)
 
