@@ -31,6 +31,7 @@ use Rattle.mesh_model.specs.Tree.ValidGrid.{FewNodes}
 use Rattle.mesh_model.specs.Fields.Valid.{InRange, ValidMesh}
 use Rattle.mesh_model.proofs.FieldLemmas.LeafSums.{off_leaf}
 use Rattle.mesh_model.proofs.FieldLemmas.ZeroViews.{no_cell_views, no_edge_views, no_face_views}
+use Rattle.block_tree.specs.GridOf.{grid_of}
 use Rattle.block_tree.specs.Marked.{derefine_of, refine_of}
 use Rattle.block_tree.proofs.Facts.{known}
 use Rattle.amr_engine.specs.declared.cause.Cause.{Cause}
