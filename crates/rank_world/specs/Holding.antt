@@ -8,6 +8,7 @@ use Rattle.mesh_model.specs.Fields.Octants.{cells_of}
 use Rattle.mesh_model.specs.Fields.ArrayPlaces.{HoldsViews}
 use Rattle.mesh_model.specs.Tree.Kinds.{Grid, is_leaf_block}
 use Rattle.mesh_model.specs.Fields.Plain.{Mesh}
+use Rattle.mesh_model.specs.Fields.Valid.{ValidMesh}
 use Rattle.mesh_model.specs.Fields.Ranks.{WorldState, rank_at}
 use Rattle.block_tree.specs.Numbered.{IsNode, block_at}
 
@@ -47,3 +48,9 @@ pub record IsOfMesh (w : WorldState) (m : Mesh) : Type 0 where
   pub faces : (w.told.counts.faces ≡ 0) ↔ (m.names.face ≡ None)
   pub edges : (w.told.counts.edges ≡ 0) ↔ (m.names.edge ≡ None)
   pub contents : (v : ℕ) → v < w.told.counts.cells → LeavesHold w v (m.cells v)
+
+-- the world is that of a valid mesh
+pub record IsOfValidMesh (w : WorldState) : Type 0 where
+  pub mesh : Mesh
+  pub valid : ValidMesh mesh
+  pub world : IsOfMesh w mesh
