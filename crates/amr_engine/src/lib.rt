@@ -1,14 +1,15 @@
 //! The commands of a script, done one after the other on a mesh.
 #![tactic(auto)]
 
-mod advection;
 pub mod built;
 pub mod cause;
-mod contents;
-pub mod engine;
-mod hierarchy;
+mod cells;
+mod filling;
+mod hindrance;
 pub mod laws;
-mod values;
+mod marking;
+mod region;
+mod totals;
 
 pub use mesh_model::Group;
 pub use mesh_model::language::names::Names;

@@ -1,4 +1,6 @@
 pub mod Holding
+pub mod Contents
+pub mod Writing
 pub mod Knowing
 pub mod Slots
 pub mod Starting

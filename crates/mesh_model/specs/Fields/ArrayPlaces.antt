@@ -127,10 +127,12 @@ pub record IsRowWritten (start many : ℕ) (wanted : ℕ → ℤ) (old new : Lis
 abbrev pub row_of : Extents → Box → ℕ → ℕ
 row_of e b m = place_in e b.x (b.y + m % b.along_y) (b.z + m / b.along_y)
 
--- the first m rows of a box are written
+-- the first m rows of a box are written, and its others are as they were
 pub record AreRowsWritten (m : ℕ) (e : Extents) (b : Box) (wanted : ℕ → ℕ → ℕ → ℤ) (old new : List ℤ) : Type 0 where
   pub size : length new ≡ length old
   pub written : (i j k : ℕ) → i < b.along_x → j < b.along_y → j + b.along_y * k < m → number_at e new (b.x + i) (b.y + j) (b.z + k) ≡ wanted i j k
+  pub waits : (i j k : ℕ) → i < b.along_x → j < b.along_y → k < b.along_z → m ≤ j + b.along_y * k →
+      number_at e new (b.x + i) (b.y + j) (b.z + k) ≡ number_at e old (b.x + i) (b.y + j) (b.z + k)
   pub stays : (i j k : ℕ) → i < e.x → j < e.y → k < e.z → (IsInBox b i j k → ⊥) → number_at e new i j k ≡ number_at e old i j k
 
 -- ---- what an array holds of a field
