@@ -8,7 +8,9 @@ use Rattle.mesh_model.specs.Geometry.Places.{places}
 
 -- one of them passes
 pub some_place : (p : ℕ → Bool) (n i : ℕ) → i < n → p i ≡ true → list_any p (places n) ≡ true
-some_place p n i h t = list_any_at p (range_with_len 0 n) i 0 (omega (arith, length-range_with_len 0 n)) (ap p (get_or-range_with_len 0 n i 0 h) ∙ t)
+some_place p n i h t =
+    let zero : 0 + i ≡ i = omega arith in
+    list_any_at p (range_with_len 0 n) i 0 (omega (arith, length-range_with_len 0 n)) (ap p (get_or-range_with_len 0 n i 0 h ∙ zero) ∙ t)
 
 -- none does
 none_from : (p : ℕ → Bool) (a n : ℕ) → ((i : ℕ) → a ≤ i → i < a + n → p i ≡ false) → list_any p (range_with_len a n) ≡ false

@@ -1,6 +1,7 @@
 -- Leaves that are found by their contents.
 use Rattle.std.proofs.Common.{◌≡◌, ℕ, zero, suc, ◌+◌, ◌<◌, Bool, true, false, List, [], ◌∷◌, length, get_or, ℤ, pos, refl, sym, ap, ap₂, ◌∙◌, arith}
-use Rattle.std.specs.Prelude.{◌||◌, ◌&&◌}
+use Rattle.std.specs.Prelude.{◌||◌, ◌&&◌, nat_lt, not}
+use Rattle.std.proofs.lemmas.Bool.{and_parts, ltb-true}
 use Rattle.std.specs.List.{list_any, range_with_len}
 use Rattle.amr_num.specs.Numbers.{at}
 use Rattle.amr_num.specs.declared.BlockAt.{BlockAt}
@@ -13,8 +14,9 @@ use Rattle.mesh_model.specs.Tree.ValidGrid.{Valid}
 use Rattle.mesh_model.proofs.FieldLemmas.BlockOctants.{block_of_cell}
 use Rattle.mesh_model.proofs.FieldLemmas.CellSums.{view_leaf}
 use Rattle.mesh_model.proofs.FieldLemmas.ValidGrid.{leaf_whole}
-use Rattle.amr_engine.specs.MarkedWhere.{block_has, is_found, is_found_by, passes}
+use Rattle.amr_engine.specs.MarkedWhere.{MayMark, block_has, is_found, is_found_by, passes}
 use Rattle.amr_engine.specs.declared.marking.Where.{Where}
+use Rattle.amr_engine.specs.declared.marking.Where.TheVariants.{DerefineBelow, RefineAbove}
 use Rattle.amr_engine.proofs.Anys.{same_places}
 
 -- a test of a list's numbers by their places
@@ -25,7 +27,7 @@ row_from p (x ∷ xs) f a h =
 
 pub row_by_places : (p : ℤ → Bool) (n : ℕ) (row : List ℤ) (numbers : ℕ → ℤ) → length row ≡ n → ((i : ℕ) → i < n → at row i ≡ numbers i) → list_any p row ≡ list_any (λ i. p (numbers i)) (places n)
 row_by_places p n row numbers long is =
-    row_from p row numbers 0 (λ i h. is i (omega (arith, long))) ∙ ap (λ m. list_any (λ i. p (numbers i)) (range_with_len 0 m)) long
+    row_from p row numbers 0 (λ i h. let zero : i ≡ 0 + i = omega arith in is i (omega (arith, long)) ∙ ap numbers zero) ∙ ap (λ m. list_any (λ i. p (numbers i)) (range_with_len 0 m)) long
 
 -- some number of a leaf decides exactly where some content does
 pub decided : (g : Grid) (content : CellAt → ℤ) (b : BlockAt) (numbers : ℕ → ℕ → ℕ → ℤ) (rule : Where) → Valid g → is_leaf_block g b ≡ true → HoldsViews g content b numbers →
@@ -44,3 +46,16 @@ found_leaf g content b rule result decides leaf same is =
 
 pub found_none : (g : Grid) (content : CellAt → ℤ) (b : BlockAt) (rule : Where) → is_leaf_block g b ≡ false → false ≡ is_found g content rule b
 found_none g content b rule inner = sym (ap (λ t. t && is_found_by g.shape b (has_cell g.shape.n b (λ c. passes rule (content c))) rule) inner)
+
+-- what is found is a leaf that may get the mark
+pub found_leaf_is : (g : Grid) (content : CellAt → ℤ) (rule : Where) (b : BlockAt) → is_found g content rule b ≡ true → is_leaf_block g b ≡ true
+found_leaf_is g content rule b h = (and_parts (is_leaf_block g b) (is_found_by g.shape b (has_cell g.shape.n b (λ c. passes rule (content c))) rule) h).0
+
+pub found_may : (g : Grid) (content : CellAt → ℤ) (rule : Where) (b : BlockAt) → is_found g content rule b ≡ true → MayMark g rule b
+found_may g content rule b h =
+    let both = and_parts (is_leaf_block g b) (is_found_by g.shape b (has_cell g.shape.n b (λ c. passes rule (content c))) rule) h in
+    by rule (has_cell g.shape.n b (λ c. passes rule (content c))) both.0 both.1
+  where
+    by : (rule : Where) (decides : Bool) → is_leaf_block g b ≡ true → is_found_by g.shape b decides rule ≡ true → MayMark g rule b
+    by (RefineAbove above) decides leaf f = (leaf, ltb-true _ _ (and_parts (nat_lt b.level g.shape.max) decides f).0)
+    by (DerefineBelow below) decides leaf f = (leaf, ltb-true _ _ (and_parts (nat_lt g.shape.min b.level) (not decides) f).0)

@@ -17,10 +17,10 @@ is_built_command d (EdgeSet at value) = false
 is_built_command d (Uniform b) = false
 is_built_command d (MarkRefine at) = true
 is_built_command d (MarkDerefine at) = true
-is_built_command d (RefineWhere var above) = false
-is_built_command d (DerefineWhere var below) = false
-is_built_command d Regrid = length d.names.cells == 0
-is_built_command d (Advect var speeds) = true
+is_built_command d (RefineWhere var above) = true
+is_built_command d (DerefineWhere var below) = true
+is_built_command d Regrid = true
+is_built_command d (Advect var speeds) = false
 is_built_command d Curl = false
 is_built_command d (Induct speeds) = false
 is_built_command d Checkpoint = false

@@ -3,5 +3,7 @@ pub mod Regions
 pub mod Filling
 pub mod Totals
 pub mod MarkedWhere
+pub mod EngineMesh
+pub mod Plain
 pub mod Stopping
 pub mod Built

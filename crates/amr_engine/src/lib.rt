@@ -4,6 +4,7 @@
 pub mod built;
 pub mod cause;
 mod cells;
+pub mod engine;
 mod filling;
 mod hindrance;
 pub mod laws;

@@ -1,0 +1,86 @@
+-- The mesh that an engine stands for is the mesh of which its world is.
+use Rattle.std.proofs.Common.{◌≡◌, ℕ, ◌<◌, ◌≤◌, Bool, true, false, List, length, get_or, ℤ, pos, None, refl, sym, ap, subst, ◌∙◌, arith, inl, inr}
+use Rattle.std.specs.Prelude.{if◌then◌else◌, nat_lt, ◌↔◌}
+use Rattle.std.proofs.lemmas.Bool.{cases_lt, le-ltb, lt-ltb}
+use Rattle.amr_num.specs.declared.BlockAt.{BlockAt}
+use Rattle.amr_num.specs.declared.CellAt.{CellAt}
+use Rattle.block_tree.specs.Marked.{derefine_of, refine_of}
+use Rattle.block_tree.specs.declared.marks.Marks.{Marks}
+use Rattle.mesh_model.specs.Fields.ArrayPlaces.{HoldsViews}
+use Rattle.mesh_model.specs.Fields.Plain.{Mesh, on_cells}
+use Rattle.mesh_model.specs.Fields.Ranks.{WorldState}
+use Rattle.mesh_model.specs.Fields.Valid.{ValidMesh}
+use Rattle.mesh_model.specs.Fields.VariableNames.{VariableNames}
+use Rattle.mesh_model.specs.Tree.Kinds.{Grid, is_leaf, is_leaf_block}
+use Rattle.mesh_model.specs.Tree.Order.{Sorted}
+use Rattle.mesh_model.specs.Tree.ValidGrid.{Valid}
+use Rattle.mesh_model.specs.Geometry.Places.{in_block}
+use Rattle.mesh_model.proofs.FieldLemmas.BlockOctants.{block_of_cell}
+use Rattle.mesh_model.proofs.FieldLemmas.CellSums.{view_leaf}
+use Rattle.mesh_model.proofs.FieldLemmas.LeafSums.{on_leaf}
+use Rattle.mesh_model.proofs.FieldLemmas.ValidGrid.{leaf_whole}
+use Rattle.block_tree.specs.Numbered.{block_at}
+use Rattle.rank_world.specs.Contents.{contents_of}
+use Rattle.rank_world.specs.Holding.{IsOfMesh, LeavesHold, numbers_of}
+use Rattle.rank_world.proofs.Contents.{contents_are, leaves_hold}
+use Rattle.amr_engine.specs.EngineMesh.{IsLaidOut, mesh_of}
+
+-- leaves that hold a field hold each that agrees with it on leaf cells
+pub leaves_same : (w : WorldState) (v : ℕ) (content other : CellAt → ℤ) → Valid w.told.grid → ((c : CellAt) → is_leaf w.told.grid c ≡ true → other c ≡ content c) → LeavesHold w v content → LeavesHold w v other
+leaves_same w v content other valid same holds node leaf = record {
+  at = λ i j k hi hj hk.
+      let g = w.told.grid in
+      let b = block_at g node in
+      let c = in_block g.shape.n b i j k in
+      let here : is_leaf g c ≡ true = ap (is_leaf_block g) (block_of_cell g.shape.n b i j k hi hj hk) ∙ leaf.leaf in
+      let whole = leaf_whole g valid c here in
+      (holds node leaf).at i j k hi hj hk ∙ view_leaf g content c whole here ∙ sym (view_leaf g other c whole here ∙ same c here);
+}
+
+pub leaves_on : (w : WorldState) (v : ℕ) (content : CellAt → ℤ) → Valid w.told.grid → LeavesHold w v content → LeavesHold w v (on_cells w.told.grid content)
+leaves_on w v content valid holds = leaves_same w v content (on_cells w.told.grid content) valid (λ c here. on_leaf w.told.grid content c here) holds
+
+-- a world is that of the mesh that it stands for
+pub own_mesh : (names : VariableNames) (w : WorldState) (outs : List ℤ) (marks : Marks) → IsLaidOut names w outs marks → Valid w.told.grid → Sorted w.told.grid.leaves → IsOfMesh w (mesh_of names w outs marks)
+unfolding mesh_of
+own_mesh names w outs marks laid valid order = record {
+  grid = refl;
+  cells = laid.cells;
+  faces = (λ zero. laid.face, λ none. laid.faces);
+  edges = (λ zero. laid.edge, λ none. laid.edges);
+  contents = λ v below.
+      let there : nat_lt v (length names.cells) ≡ true = lt-ltb v (length names.cells) (omega (arith, laid.cells, below)) in
+      subst (λ t. LeavesHold w v (λ c. if t then contents_of w v c else pos 0)) (sym there) (leaves_hold w v valid order);
+}
+
+-- and stands for the mesh whose world it is
+pub mesh_shown : (names : VariableNames) (w : WorldState) (outs : List ℤ) (marks : Marks) (m : Mesh) → IsOfMesh w m → ValidMesh m → names ≡ m.names → names.face ≡ None → names.edge ≡ None →
+    ((v : ℕ) → get_or outs v (pos 0) ≡ m.outs v) → ((b : BlockAt) → refine_of w.told.grid marks b ≡ m.refine b) → ((b : BlockAt) → derefine_of w.told.grid marks b ≡ m.derefine b) →
+    mesh_of names w outs marks ≡ m
+unfolding mesh_of
+mesh_shown names w outs marks m of valid named face edge flowed refine derefine =
+    let same_names : names.cells ≡ m.names.cells = ap (λ (n : VariableNames). n.cells) named in
+    let grid : Valid w.told.grid = subst Valid (sym of.grid) valid.grid in
+    let order : Sorted w.told.grid.leaves = subst (λ (g : Grid). Sorted g.leaves) (sym of.grid) valid.order in
+    let cell : (v : ℕ) (c : CellAt) → (if nat_lt v (length names.cells) then contents_of w v c else pos 0) ≡ m.cells v c = λ v c.
+    elim (cases_lt v (length names.cells)) [
+      | inl below ↦ (
+          let there : v < length m.names.cells = subst (λ (l : List (List ℕ)). v < length l) same_names below in
+          ap (λ t. if t then contents_of w v c else pos 0) (lt-ltb v (length names.cells) below)
+          ∙ contents_are w v grid order (m.cells v) (of.contents v (omega (arith, of.cells, there))) (λ d off. valid.numbers.cells v d (subst (λ g. is_leaf g d ≡ false) of.grid off)) c)
+      | inr past ↦ (
+          let far : length m.names.cells ≤ v = subst (λ (l : List (List ℕ)). length l ≤ v) same_names past in
+          ap (λ t. if t then contents_of w v c else pos 0) (le-ltb v (length names.cells) past) ∙ sym (valid.declared.cells v far c))
+    ] in
+    let no_face = ap (λ (n : VariableNames). n.face) (sym named) ∙ face in
+    let no_edge = ap (λ (n : VariableNames). n.edge) (sym named) ∙ edge in
+    λ i. record {
+      grid = of.grid i;
+      names = named i;
+      cells = λ v c. cell v c i;
+      outs = λ v. flowed v i;
+      faces = λ f. sym (valid.declared.faces no_face f) i;
+      edges = λ e. sym (valid.declared.edges no_edge e) i;
+      refine = λ b. refine b i;
+      derefine = λ b. derefine b i;
+    }

@@ -1,0 +1,303 @@
+//! The mesh of a run, and each command on it.
+
+use crate::cause::{Cause, Stop};
+use crate::filling::fill_leaves;
+use crate::marking::{Where, mark_where};
+use crate::region::{CellBox, Fill, Region};
+use crate::totals::total;
+use amr_num::{BlockAt, OutOfMemory};
+use amr_report::{print_mesh, print_size, print_total, print_tree, print_var};
+use block_store::Layout;
+use block_tree::Marks;
+use mesh_model::Group;
+use mesh_model::language::names::Names;
+use mesh_model::language::script::{Command, Declared, Line};
+use outside_io::Failed;
+use outside_io::disk::Disk;
+use outside_io::sink::Sink;
+use rank_world::World;
+use refine_marks::{SetMarks, close};
+use regrid_move::regrid;
+use std::alloc::Global;
+
+/// A mesh on which the commands of a script are done: its world, which has the tree and the numbers in blocks of `N`
+/// cells along each axis with `G` guard cells on each side, the marks on its leaves, and what has flowed out of each
+/// cell variable.
+#[derive(Drop)]
+pub struct Engine<const N: usize, const G: usize> {
+    alloc: Global,
+    names: Names,
+    world: World<N, G>,
+    marks: Marks,
+    outs: Vec<i128>,
+    ghost fit: { IsFit N G world },
+    ghost laid_out: { IsLaidOut names world outs.items marks },
+    ghost valid: { ∥ ValidMesh (mesh_of names world outs.items marks) ∥₁ },
+}
+
+ghost use Rattle.amr_engine.specs.EngineMesh.{IsLaidOut, mesh_of};
+ghost use Rattle.mesh_model.specs.Fields.Ranks.{IsFit};
+ghost use Rattle.mesh_model.specs.Fields.Valid.{ValidMesh};
+ghost use Rattle.std.specs.Prelude.{◌≡◌, IfOk, MatchResult, Ok, Err, pos, replicate};
+
+/// A call that prints stops a command where the sink fails.
+fn written(printed: Result<(), Failed>) -> Result<(), Cause>
+    ensures { MatchResult printed (λ done. result ≡ Ok tt) (λ failed. result ≡ Err Cause.WriteFault) }
+{
+    match printed {
+        Ok(()) => Ok(()),
+        Err(Failed) => Err(Cause::WriteFault),
+    }
+}
+
+/// What has flowed out of each variable at the start, which is nothing.
+fn zero_outs(alloc: Global, variables: u32) -> Result<Vec<i128>, OutOfMemory>
+    ensures { IfOk result (λ list. list.items ≡ replicate variables (pos 0)) }
+{
+    match vec![in alloc; 0i128; variables as usize] {
+        Ok(list) => Ok(list),
+        Err(_) => Err(OutOfMemory),
+    }
+}
+
+impl<const N: usize, const G: usize> Engine<N, G> {
+    ghost use Rattle.amr_engine.specs.Built.{IsBuiltLine, is_built_command};
+    ghost use Rattle.amr_engine.specs.Plain.{declared_of, plain};
+    ghost use Rattle.amr_engine.specs.Regions.{IsRegionOf, filled};
+    ghost use Rattle.amr_engine.specs.MarkedWhere.{marked_where, number_of};
+    ghost use Rattle.amr_engine.specs.Stopping.{Acts, Changes, IsCause};
+    ghost use Rattle.amr_report.specs.Printing.{Prints};
+    ghost use Rattle.mesh_model.specs.Language.Commands.{AreThree, IsCellVariable, IsCommandOf, IsGroup, IsLeafNumber, IsLineOf, IsPlace};
+    ghost use Rattle.mesh_model.specs.Geometry.Limits.{IsShape};
+    ghost use Rattle.mesh_model.specs.Fields.Ranks.{IsSized};
+    ghost use Rattle.rank_world.specs.Holding.{IsOfMesh};
+    ghost use Rattle.mesh_model.specs.Run.Runs.{KeepsOuts, KeepsTotals, StaysPositive, mesh_after, text_of};
+    ghost use Rattle.mesh_model.specs.Fields.Start.{start_mesh};
+    ghost use Rattle.mesh_model.specs.Run.Stops.{refusal};
+    ghost use Rattle.mesh_model.specs.Run.Texts.{total_text, variable_text};
+    ghost use Rattle.outside_io.specs.Moved.{Takes};
+    ghost use Rattle.std.specs.Prelude.{◌≤◌, true, IfErr, IfOk, None, OnErr, OnOk, length};
+
+    /// The start mesh of what was declared: all contents 0. `N` and `G` are the shape's.
+    pub fn new(alloc: Global, declared: Declared) -> Result<Engine<N, G>, OutOfMemory>
+        requires shape { IsShape declared.shape }
+        requires sizes { IsSized N G declared.shape }
+        requires groups { (declared.names.face ≡ None) × (declared.names.edge ≡ None) }
+        requires few { length declared.names.cells ≤ 4 }
+        ensures mesh { IfOk result (λ engine. plain engine ≡ start_mesh declared.shape declared.names) }
+        ensures declared { IfOk result (λ engine. declared_of engine ≡ declared) }
+    {
+        let Declared { shape, names } = declared;
+        let variables = names.cells();
+        let layout = Layout {
+            cells: variables,
+            faces: 0,
+            edges: 0,
+        };
+        let world = World::new(alloc, shape, layout)?;
+        let marks = Marks::empty(alloc, world.tree())?;
+        let outs = zero_outs(alloc, variables)?;
+        Ok(Engine {
+            alloc,
+            names,
+            world,
+            marks,
+            outs,
+        })
+    }
+
+    /// The names of the variables.
+    pub fn names(&self) -> &Names
+        ensures { result.now ≡ (declared_of self.now).names }
+    {
+        &self.names
+    }
+
+    /// The tree with the numbers in its blocks.
+    pub fn world(&self) -> &World<N, G>
+        ensures tree { result.now.told.grid ≡ (plain self.now).grid }
+        ensures contents { IsOfMesh result.now (plain self.now) }
+    {
+        &self.world
+    }
+
+    /// Does the command of a line: changes the mesh, or prints.
+    pub fn command<K: Sink, D: Disk>(
+        &mut self,
+        line: &Line,
+        sink: &mut K,
+        disk: &mut D,
+    ) -> Result<(), Stop>
+        requires fits { IsLineOf (declared_of self.old) line.now }
+        requires built { IsBuiltLine (declared_of self.old) line.now }
+        ensures mesh { OnOk result (plain self.new ≡ mesh_after (plain self.old) line.now.command) }
+        ensures text { OnOk result (Takes (K.taken sink.old) (text_of (plain self.old) line.now.command) (K.taken sink.new)) }
+        ensures calm { OnOk result (K.faults sink.new ≡ K.faults sink.old) }
+
+        // It stops exactly where the mesh refuses the command, or where what the command needs fails, be it the sink or memory; it
+        // leaves the mesh then.
+        ensures allowed { OnOk result (refusal (plain self.old) line.now.command ≡ None) }
+        ensures line { IfErr result (λ stop. stop.line ≡ line.now.number) }
+        ensures cause { IfErr result (λ stop. IsCause stop.cause (plain self.old) line.now.command (record { before = K.taken sink.old; after = K.taken sink.new; faults = K.faults sink.old; new_faults = K.faults sink.new })) }
+        ensures refused { OnErr result (plain self.new ≡ plain self.old) }
+
+        // What a command keeps: totals with what has flowed out, what has flowed out, and contents that are not below 0.
+        ensures totals { OnOk result (KeepsTotals (plain self.old) line.now.command (plain self.new)) }
+        ensures outs { OnOk result (KeepsOuts (plain self.old) line.now.command (plain self.new)) }
+        ensures positive { OnOk result (StaysPositive (plain self.old) line.now.command (plain self.new)) }
+        ensures valid { ValidMesh (plain self.new) }
+
+        // No command calls the disk, and what was declared stays.
+        ensures disk { disk.new ≡ disk.old }
+        ensures declared { declared_of self.new ≡ declared_of self.old }
+    {
+        match self.act(line.command, sink) {
+            Ok(()) => Ok(()),
+            Err(cause) => Err(Stop {
+                line: line.number,
+                cause,
+            }),
+        }
+    }
+
+    /// Does a command.
+    fn act<K: Sink>(&mut self, command: Command, sink: &mut K) -> Result<(), Cause>
+        requires fits { IsCommandOf (declared_of self.old) command }
+        requires built { is_built_command (declared_of self.old) command ≡ true }
+        ensures acts { Acts result (plain self.old) command (plain self.new) (record { before = K.taken sink.old; after = K.taken sink.new; faults = K.faults sink.old; new_faults = K.faults sink.new }) }
+        ensures declared { declared_of self.new ≡ declared_of self.old }
+    {
+        match command {
+            Command::FillAll { var, value } => {
+                let region = Region::Everywhere;
+                self.fill(var, Fill { region, value });
+                Ok(())
+            }
+            Command::FillBox {
+                var,
+                level,
+                low,
+                high,
+                value,
+            } => {
+                let region = Region::Within(CellBox { level, low, high });
+                self.fill(var, Fill { region, value });
+                Ok(())
+            }
+            Command::MarkRefine { at } => self.mark_refine(at),
+            Command::MarkDerefine { at } => self.mark_derefine(at),
+            Command::RefineWhere { var, above } => {
+                self.mark_where(var, Where::RefineAbove(above));
+                Ok(())
+            }
+            Command::DerefineWhere { var, below } => {
+                self.mark_where(var, Where::DerefineBelow(below));
+                Ok(())
+            }
+            Command::Regrid => self.regrid(),
+            Command::PrintSize => written(print_size(sink, self.world.tree())),
+            Command::PrintMesh => written(print_mesh(sink, self.world.tree())),
+            Command::PrintTree => written(print_tree(sink, self.world.tree())),
+            Command::PrintVar { group } => written(self.print_variable(group, sink)),
+            Command::Total { var } => written(self.print_total(var, sink)),
+            _ => unreachable!(),
+        }
+    }
+
+    /// Every leaf cell of the variable that the fill covers takes its value.
+    fn fill(&mut self, var: u32, fill: Fill)
+        requires variable { IsCellVariable (declared_of self.old).names var }
+        requires region { IsRegionOf (declared_of self.old).shape fill.region }
+        requires value { IsLeafNumber fill.value }
+        ensures mesh { plain self.new ≡ filled (plain self.old) var fill }
+        ensures declared { declared_of self.new ≡ declared_of self.old }
+    {
+        fill_leaves(&mut self.world, var, fill);
+    }
+
+    /// Marks a leaf to be refined.
+    fn mark_refine(&mut self, at: BlockAt) -> Result<(), Cause>
+        requires place { IsPlace at }
+        ensures changes { Changes result (plain self.old) (Command.MarkRefine at) (plain self.new) }
+        ensures declared { declared_of self.new ≡ declared_of self.old }
+    {
+        let node = match self.world.tree().leaf_at(at) {
+            Some(node) => node,
+            None => return Err(Cause::PlaceBlock(at)),
+        };
+        match self.marks.set_refine(self.world.tree(), node) {
+            Ok(()) => Ok(()),
+            Err(stop) => Err(Cause::Level(stop)),
+        }
+    }
+
+    /// Marks a leaf to be merged with its siblings.
+    fn mark_derefine(&mut self, at: BlockAt) -> Result<(), Cause>
+        requires place { IsPlace at }
+        ensures changes { Changes result (plain self.old) (Command.MarkDerefine at) (plain self.new) }
+        ensures declared { declared_of self.new ≡ declared_of self.old }
+    {
+        let node = match self.world.tree().leaf_at(at) {
+            Some(node) => node,
+            None => return Err(Cause::PlaceBlock(at)),
+        };
+        match self.marks.set_derefine(self.world.tree(), node) {
+            Ok(()) => Ok(()),
+            Err(stop) => Err(Cause::Level(stop)),
+        }
+    }
+
+    /// Marks every leaf whose contents of the variable ask for it.
+    fn mark_where(&mut self, var: u32, rule: Where)
+        requires variable { IsCellVariable (declared_of self.old).names var }
+        requires number { IsLeafNumber (number_of rule) }
+        ensures mesh { plain self.new ≡ marked_where (plain self.old) var rule }
+        ensures declared { declared_of self.new ≡ declared_of self.old }
+    {
+        mark_where(&self.world, &mut self.marks, var, rule);
+    }
+
+    /// Refines and merges as the marks and the level rule ask, and takes the marks away.
+    fn regrid(&mut self) -> Result<(), Cause>
+        ensures changes { Changes result (plain self.old) Command.Regrid (plain self.new) }
+        ensures declared { declared_of self.new ≡ declared_of self.old }
+    {
+        let plan = match close(self.alloc, self.world.tree(), &self.marks) {
+            Ok(plan) => plan,
+            Err(OutOfMemory) => return Err(Cause::OutOfMemory),
+        };
+        match regrid(self.alloc, &mut self.world, &plan) {
+            Ok(()) => {
+                self.marks.reset(self.world.tree());
+                Ok(())
+            }
+            Err(stop) => Err(Cause::of_regrid(stop)),
+        }
+    }
+
+    /// Prints the numbers of a variable.
+    fn print_variable<K: Sink>(&self, group: Group, sink: &mut K) -> Result<(), Failed>
+        requires { IsGroup (declared_of self.now).names group }
+        ensures { Prints result (K.taken sink.old) (variable_text (plain self.now) group) (K.taken sink.new) (K.faults sink.old) (K.faults sink.new) }
+    {
+        match group {
+            Group::Cell(var) => print_var(
+                sink,
+                self.world.tree(),
+                self.names.cell(var),
+                group,
+                &self.world,
+            ),
+            Group::Face | Group::Edge => unreachable!(),
+        }
+    }
+
+    /// Prints the total of a cell variable.
+    fn print_total<K: Sink>(&self, var: u32, sink: &mut K) -> Result<(), Failed>
+        requires { IsCellVariable (declared_of self.now).names var }
+        ensures { Prints result (K.taken sink.old) (total_text (plain self.now) var) (K.taken sink.new) (K.faults sink.old) (K.faults sink.new) }
+    {
+        let total = total(&self.world, var);
+        print_total(sink, self.names.cell(var), total, self.outs[var as usize])
+    }
+}
