@@ -1,2 +1,3 @@
 pub mod Flux
+pub mod Fluxed
 pub mod Settled

@@ -1,9 +1,9 @@
 use Rattle.std.proofs.Common.{◌≡◌, ◌+◌, ap, arith, sym, ◌∙◌, ℕ, ℤ, subst, None}
 use Rattle.mesh_model.specs.Fields.Firsts.{first_below}
 use Rattle.mesh_model.specs.Fields.ArrayPlaces.{cell_extents, number_at}
-use Rattle.regrid_move.specs.Above.{above_at, first_in_plane}
-use Rattle.regrid_move.proofs.Aboves.{found_here, none_here, row_is}
-use Rattle.regrid_move.proofs.above.plane_above.Goals as goal
+use Rattle.block_store.specs.Above.{above_at, first_in_plane}
+use Rattle.block_store.proofs.Aboves.{found_here, none_here, row_is}
+use Rattle.block_store.proofs.above.plane_above.Goals as goal
 
 pub returns-then-is_some : goal.returns-then-is_some
 returns-then-is_some c =

@@ -3,7 +3,7 @@ use Rattle.std.specs.Prelude.{ℕ, ◌+◌, ◌^◌, List, ℤ, Option, Some, No
 use Rattle.amr_num.specs.Numbers.{at}
 use Rattle.mesh_model.specs.Fields.Firsts.{first_below, first_in_box}
 use Rattle.mesh_model.specs.Fields.RangeWalk.{is_above}
-use Rattle.regrid_move.specs.declared.above.Above.{Above}
+use Rattle.block_store.specs.declared.above.Above.{Above}
 
 -- the number at a place of a block's cells, where it is above 2^40 in absolute value
 abbrev pub above_at : (ℕ → ℕ → ℕ → ℤ) → ℕ → ℕ → ℕ → Option Above
