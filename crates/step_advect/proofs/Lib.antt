@@ -1,1 +1,4 @@
 pub mod Faces
+pub mod Outflows
+pub mod Ranges
+pub mod Rows

@@ -1,3 +1,4 @@
+pub mod Applied
 pub mod Flux
 pub mod Fluxed
 pub mod Settled

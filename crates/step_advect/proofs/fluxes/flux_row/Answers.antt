@@ -1,7 +1,7 @@
 use borrow.Rule.Slice.PartMut.{put_mid}
 use Rattle.std.proofs.Common.{◌≡◌, ◌+◌, ◌-◌, ◌/◌, ◌%◌, ◌<◌, ◌≤◌, ◌^◌, ℕ, ℤ, arith, ap, drop, get_or, length, pos, subst, sym, ◌∙◌, rules, take}
 use Rattle.std.proofs.lemmas.List.{length-drop, length-take, length-take-le}
-use Rattle.mesh_model.specs.Fields.ArrayPlaces.{IsRowWritten, cell_extents, face_extents, number_at, place_in, row_of, size_of}
+use Rattle.mesh_model.specs.Fields.ArrayPlaces.{IsRowWritten, cell_extents, face_extents, number_at, place_in, row_of}
 use Rattle.mesh_model.proofs.FieldLemmas.BlockPlaces.{row_fits, row_put, row_y, row_z}
 use Rattle.step_advect.specs.Fluxed.{block_faces, flux_at}
 use Rattle.step_advect.proofs.Faces.{donors_within, faces_fit, row_fluxes}
