@@ -10,6 +10,7 @@ ghost use Rattle.step_advect.specs.Flux.{donor_of, flux_between};
 ghost use Rattle.step_advect.specs.Settled.{IsAboveRange};
 
 mod fluxes;
+pub mod laws;
 mod update;
 
 use amr_num::{RANGE, carry};

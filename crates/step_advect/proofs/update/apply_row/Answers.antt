@@ -5,7 +5,7 @@ use Rattle.amr_num.specs.declared.Axis.TheVariants.{X, Y, Z}
 use Rattle.mesh_model.specs.Fields.ArrayPlaces.{IsRowWritten, cell_extents, face_extents, interior, place_in, row_of, size_of}
 use Rattle.mesh_model.proofs.FieldLemmas.BlockPlaces.{interior_fits, row_fits, row_put, row_y, row_z}
 use Rattle.step_advect.specs.Applied.{AreRowsSmall, Flows, flows_in, left_at}
-use Rattle.step_advect.proofs.Rows.{AreRowsOf, row_of_known, rows_left, rows_small}
+use Rattle.step_advect.proofs.Rows.{AreRowsOf, row_of_known, rows_left}
 use Rattle.step_advect.proofs.update.apply_row.Goals as goal
 
 pub slice_bounds-left_row-end : goal.slice_bounds-left_row-end
