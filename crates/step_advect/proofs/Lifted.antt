@@ -17,9 +17,8 @@ use Rattle.mesh_model.specs.Fields.Advect.{Speeds, blown_from, is_closed_kind, l
 use Rattle.mesh_model.specs.Fields.ArrayPlaces.{HoldsFaceField, HoldsGuards, cell_extents, face_extents, number_at}
 use Rattle.mesh_model.specs.Fields.Views.{cell_view}
 use Rattle.mesh_model.proofs.GeometryLemmas.ShapeLimits.{cells_some}
-use Rattle.step_advect.specs.declared.fluxes.Flow.{Flow}
 use Rattle.step_advect.specs.Flux.{flux_between}
-use Rattle.step_advect.specs.Fluxed.{IsFluxed, along, flux_at, is_on_side}
+use Rattle.step_advect.specs.Fluxed.{Flow, IsFluxed, along, flux_at, is_on_side}
 use Rattle.step_advect.specs.Lifts.{IsFlowOf}
 use Rattle.step_advect.proofs.Donors.{block_inside, donor_is, position_is, position_within}
 use Rattle.step_advect.proofs.Seams.{flux_named}

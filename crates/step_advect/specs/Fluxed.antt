@@ -6,7 +6,7 @@ use Rattle.amr_num.specs.declared.Axis.TheVariants.{X, Y, Z}
 use Rattle.mesh_model.specs.Geometry.Coordinates.{on, step}
 use Rattle.mesh_model.specs.Geometry.Places.{longer_on}
 use Rattle.mesh_model.specs.Fields.ArrayPlaces.{Box, IsWritten, cell_extents, face_extents, number_at}
-use Rattle.step_advect.specs.declared.fluxes.Flow.{Flow}
+use Rattle.step_advect.specs.declared.fluxes.FlowAlong.{FlowAlong}
 use Rattle.step_advect.specs.Flux.{donor_of, flux_between}
 
 -- the faces of a block among the places of their array
@@ -28,6 +28,17 @@ donor_at a speed cells i j k = donor_of speed (lower_by 1 a cells i j k) (cells 
 -- position p of n lies on the low side, where that is chosen, or on the high one, where that is
 abbrev pub is_on_side : ℕ → Bool → Bool → ℕ → Bool
 is_on_side n low high p = ((p == 0) && low) || ((p == n) && high)
+
+-- how a block is flowed through along an axis: at which level and speed, and which of its two sides are closed
+pub record Flow : Type 0 where
+  pub level : ℕ
+  pub speed : ℤ
+  pub closed_low : Bool
+  pub closed_high : Bool
+
+-- as the code has it
+abbrev pub flow_of : FlowAlong → Flow
+flow_of f = record { level = f.level; speed = f.speed; closed_low = f.closed_low; closed_high = f.closed_high }
 
 -- the flux through a face at a place of a block from the content of its donor
 unfoldable pub flux_from : ℕ → Axis → Flow → ℤ → ℕ → ℕ → ℕ → ℤ

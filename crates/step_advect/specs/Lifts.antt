@@ -11,8 +11,7 @@ use Rattle.mesh_model.specs.Geometry.Touch.{block_on}
 use Rattle.mesh_model.specs.Tree.Kinds.{Grid}
 use Rattle.mesh_model.specs.Fields.Advect.{Speeds, is_closed_kind, leaf_flux, speed}
 use Rattle.mesh_model.specs.Fields.ArrayPlaces.{HoldsFaceField, HoldsGuards, cell_extents, face_extents, number_at}
-use Rattle.step_advect.specs.declared.fluxes.Flow.{Flow}
-use Rattle.step_advect.specs.Fluxed.{IsFluxed}
+use Rattle.step_advect.specs.Fluxed.{Flow, IsFluxed}
 
 -- the low and the high side of a block on an axis lie on those of the domain
 abbrev pub is_at_low_side : Axis → BlockAt → Bool

@@ -7,14 +7,14 @@ ghost use Rattle.mesh_model.specs.Geometry.Coordinates as coordinates;
 ghost use Rattle.mesh_model.specs.Geometry.Places.{longer_on};
 ghost use Rattle.std.specs.Prelude.{◌≡◌, ℕ, ◌+◌, ◌*◌, ◌/◌, ◌%◌, ◌^◌, ◌<◌, ◌≤◌, length, unsigned_abs};
 ghost use Rattle.step_advect.specs.Fluxed as fluxed;
-ghost use Rattle.step_advect.specs.Fluxed.{AreFacesWithin, AreSidesWithin, IsFluxed, block_faces, donor_at, flux_at};
+ghost use Rattle.step_advect.specs.Fluxed.{AreFacesWithin, AreSidesWithin, IsFluxed, block_faces, donor_at, flow_of, flux_at};
 
 use amr_num::{Axis, carry};
 use block_store::{Cells, Extents, place, row};
 
 /// How a block is flowed through along an axis: at which level and speed, and which of its two sides are closed.
 #[derive(Clone, Copy)]
-struct Flow {
+struct FlowAlong {
     level: u32,
     speed: i64,
     closed_low: bool,
@@ -52,7 +52,7 @@ fn along(axis: Axis, i: usize, j: usize, k: usize) -> usize
 
 /// Whether the faces at a position lie on a closed side.
 #[inline]
-fn is_closed(n: usize, flow: &Flow, position: usize) -> bool
+fn is_closed(n: usize, flow: &FlowAlong, position: usize) -> bool
     ensures { result ≡ fluxed.is_on_side n flow.now.closed_low flow.now.closed_high position }
 {
     let low = position == 0;
@@ -63,12 +63,20 @@ fn is_closed(n: usize, flow: &Flow, position: usize) -> bool
 /// The flux through a face of a row from its donor.
 #[tactic(auto, unfolding(crate::specs::Fluxed::flux_from))]
 #[inline]
-fn flux_from(n: usize, axis: Axis, flow: &Flow, donors: &[i64], t: usize, j: usize, k: usize) -> i64
+fn flux_from(
+    n: usize,
+    axis: Axis,
+    flow: &FlowAlong,
+    donors: &[i64],
+    t: usize,
+    j: usize,
+    k: usize,
+) -> i64
     requires level { flow.now.level ≤ 10 }
     requires speed { unsigned_abs flow.now.speed * 2 ^ flow.now.level ≤ 2 ^ 20 }
     requires inside { t < length donors.now }
     requires small { Within (2 ^ 56) (at donors.now t) }
-    ensures { result ≡ fluxed.flux_from n axis flow.now (at donors.now t) t j k }
+    ensures { result ≡ fluxed.flux_from n axis (flow_of flow.now) (at donors.now t) t j k }
 {
     if is_closed(n, flow, along(axis, t, j, k)) {
         0
@@ -84,7 +92,7 @@ fn donor_row<'a>(
     g: usize,
     cells: &'a [i64],
     axis: Axis,
-    flow: &Flow,
+    flow: &FlowAlong,
     j: usize,
     k: usize,
 ) -> &'a [i64]
@@ -110,7 +118,7 @@ fn donor_row<'a>(
 fn flux_donors(
     n: usize,
     axis: Axis,
-    flow: &Flow,
+    flow: &FlowAlong,
     donors: &[i64],
     j: usize,
     k: usize,
@@ -121,7 +129,7 @@ fn flux_donors(
     requires donors { length donors.now ≡ length out.old }
     requires small { (t : ℕ) → t < length out.old → Within (2 ^ 56) (at donors.now t) }
     ensures size { length out.new ≡ length out.old }
-    ensures fluxes { (t : ℕ) → t < length out.old → at out.new t ≡ fluxed.flux_from n axis flow.now (at donors.now t) t j k }
+    ensures fluxes { (t : ℕ) → t < length out.old → at out.new t ≡ fluxed.flux_from n axis (flow_of flow.now) (at donors.now t) t j k }
 {
     for t in 0..out.len() {
         out[t] = flux_from(n, axis, flow, donors, t, j, k);
@@ -130,7 +138,15 @@ fn flux_donors(
 
 /// Sets the `m`-th row of the faces of a block normal to an axis to their fluxes.
 #[inline]
-fn flux_row(n: usize, g: usize, cells: &[i64], axis: Axis, flow: &Flow, out: &mut [i64], m: usize)
+fn flux_row(
+    n: usize,
+    g: usize,
+    cells: &[i64],
+    axis: Axis,
+    flow: &FlowAlong,
+    out: &mut [i64],
+    m: usize,
+)
     requires size { IsSize n g }
     requires cells { length cells.now ≡ size_of (cell_extents n g) }
     requires level { flow.now.level ≤ 10 }
@@ -140,7 +156,7 @@ fn flux_row(n: usize, g: usize, cells: &[i64], axis: Axis, flow: &Flow, out: &mu
     requires row { m < longer_on axis Y n * longer_on axis Z n }
     ensures { let b = block_faces n g axis in
         IsRowWritten (row_of (face_extents n g axis) b m) b.along_x
-        (λ t. flux_at n g axis flow.now (number_at (cell_extents n g) cells.now) t (m % b.along_y) (m / b.along_y)) out.old out.new }
+        (λ t. flux_at n g axis (flow_of flow.now) (number_at (cell_extents n g) cells.now) t (m % b.along_y) (m / b.along_y)) out.old out.new }
 {
     let many = longer(axis, Axis::X, n);
     let rows = longer(axis, Axis::Y, n);
@@ -153,14 +169,14 @@ fn flux_row(n: usize, g: usize, cells: &[i64], axis: Axis, flow: &Flow, out: &mu
 
 /// Sets the faces of a block normal to an axis to their fluxes.
 #[inline]
-fn flux_faces(n: usize, g: usize, cells: &[i64], axis: Axis, flow: &Flow, out: &mut [i64])
+fn flux_faces(n: usize, g: usize, cells: &[i64], axis: Axis, flow: &FlowAlong, out: &mut [i64])
     requires size { IsSize n g }
     requires cells { length cells.now ≡ size_of (cell_extents n g) }
     requires level { flow.now.level ≤ 10 }
     requires speed { unsigned_abs flow.now.speed * 2 ^ flow.now.level ≤ 2 ^ 20 }
     requires small { AreSidesWithin (2 ^ 56) n g axis (number_at (cell_extents n g) cells.now) }
     requires out { length out.old ≡ size_of (face_extents n g axis) }
-    ensures fluxes { IsFluxed n g axis flow.now cells.now out.old out.new }
+    ensures fluxes { IsFluxed n g axis (flow_of flow.now) cells.now out.old out.new }
     ensures size { (most : ℕ) → AreSidesWithin most n g axis (number_at (cell_extents n g) cells.now)
         → AreFacesWithin most n g axis (number_at (face_extents n g axis) out.new) }
 {
@@ -192,7 +208,7 @@ pub fn face_fluxes<const N: usize, const G: usize>(
     ensures size { (most : ℕ) → AreSidesWithin most N G axis (number_at (cell_extents N G) cells.now)
         → AreFacesWithin most N G axis (number_at (face_extents N G axis) out.new) }
 {
-    let flow = Flow {
+    let flow = FlowAlong {
         level,
         speed,
         closed_low,

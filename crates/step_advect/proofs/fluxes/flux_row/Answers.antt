@@ -3,7 +3,7 @@ use Rattle.std.proofs.Common.{◌≡◌, ◌+◌, ◌-◌, ◌/◌, ◌%◌, ◌
 use Rattle.std.proofs.lemmas.List.{length-drop, length-take, length-take-le}
 use Rattle.mesh_model.specs.Fields.ArrayPlaces.{IsRowWritten, cell_extents, face_extents, number_at, place_in, row_of}
 use Rattle.mesh_model.proofs.FieldLemmas.BlockPlaces.{row_fits, row_put, row_y, row_z}
-use Rattle.step_advect.specs.Fluxed.{block_faces, flux_at}
+use Rattle.step_advect.specs.Fluxed.{block_faces, flow_of, flux_at}
 use Rattle.step_advect.proofs.Faces.{donors_within, faces_fit, row_fluxes}
 use Rattle.step_advect.proofs.fluxes.flux_row.Goals as goal
 
@@ -40,7 +40,7 @@ returns c =
     let g = c.args.g in
     let a = c.args.axis in
     let m = c.args.m in
-    let flow = c.args.flow.now in
+    let flow = flow_of c.args.flow.now in
     let e = face_extents n g a in
     let b = block_faces n g a in
     let numbers = number_at (cell_extents n g) c.args.cells.now in
