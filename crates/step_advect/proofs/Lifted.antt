@@ -24,7 +24,7 @@ use Rattle.step_advect.proofs.Donors.{block_inside, donor_is, position_is, posit
 use Rattle.step_advect.proofs.Seams.{flux_named}
 use Rattle.step_advect.proofs.Sides.{on_domain_side}
 
-extent_turned : (r n m : ℕ) → n * (r * m) ≡ r * n * m
+pub extent_turned : (r n m : ℕ) → n * (r * m) ≡ r * n * m
 extent_turned r n m = grind arith
 
 module _ (s : Shape) (n : Speeds) (a : Axis) (b : BlockAt) (flow : Flow) (shape : IsShape s) (inside : InDomain s b) (is : IsFlowOf s n a b flow)

@@ -2,12 +2,13 @@
 use Rattle.std.proofs.Common.{◌≡◌, ℕ, zero, suc, ◌+◌, ◌<◌, ◌^◌, Bool, true, false, ℤ, Option, Some, None, inl, inr, refl, sym, ap, subst, ◌∙◌, arith}
 use Rattle.std.specs.Prelude.{if◌then◌else◌, unsigned_abs}
 use Rattle.std.specs.Option.{option_map, option_or}
-use Rattle.std.proofs.lemmas.Bool.{cases_lt, lt-ltb}
+use Rattle.std.proofs.lemmas.Bool.{cases_lt, le-ltb, lt-ltb}
 use Rattle.amr_num.specs.Numbers.{Within, number_range}
 use Rattle.amr_num.specs.declared.Axis.TheVariants.{X}
 use Rattle.mesh_model.specs.Fields.Firsts.{first_below, first_in_box}
 use Rattle.mesh_model.specs.Fields.RangeWalk.{is_above}
 use Rattle.mesh_model.proofs.FieldLemmas.FirstFound.{box_mapped, box_same}
+use Rattle.block_store.proofs.Aboves.{none_found}
 use Rattle.block_store.specs.Above.{above_at, first_in_block}
 use Rattle.block_store.specs.declared.above.Above.{Above}
 use Rattle.step_advect.specs.declared.update.RangeAt.{RangeAt}
@@ -60,3 +61,9 @@ all_in_range n cells none = record {
       (none_below n (λ x. range_at cells x j k)
       (none_below n (λ y. first_below n (λ x. range_at cells x y k)) (none_below n (λ z. first_below n (λ y. first_below n (λ x. range_at cells x y z))) none k hk) j hj) i hi);
 }
+
+-- where all are in range none is found
+pub none_out : (n : ℕ) (cells : ℕ → ℕ → ℕ → ℤ) → AreInRange n cells → first_out n cells ≡ None
+none_out n cells within =
+    box_same n (range_at cells) (λ i j k. None) (λ i j k hi hj hk. rw (le-ltb number_range (unsigned_abs (cells i j k)) (within.at i j k hi hj hk)) refl)
+    ∙ none_found n (λ k. first_below n (λ j. first_below n (λ i. None))) (λ k hk. none_found n (λ j. first_below n (λ i. None)) (λ j hj. none_found n (λ i. None) (λ i hi. refl)))
