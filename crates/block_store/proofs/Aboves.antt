@@ -1,5 +1,5 @@
 -- The first number out of range, row by row and plane by plane.
-use Rattle.std.proofs.Common.{◌≡◌, ℕ, zero, suc, ◌+◌, ◌<◌, ◌^◌, Bool, true, false, List, length, ℤ, Option, Some, None, is_some, refl, sym, ap, ap₂, subst, ◌∙◌, arith}
+use Rattle.std.proofs.Common.{◌≡◌, ℕ, zero, suc, ◌+◌, ◌<◌, ◌^◌, true, false, List, length, ℤ, Option, Some, None, is_some, refl, sym, ap, ap₂, ◌∙◌, arith}
 use Rattle.std.specs.Prelude.{if◌then◌else◌, unsigned_abs}
 use Rattle.std.specs.Option.{option_or}
 use Rattle.std.proofs.lemmas.Bool.{le-ltb}
@@ -8,7 +8,6 @@ use Rattle.mesh_model.specs.Fields.Firsts.{first_below}
 use Rattle.mesh_model.specs.Fields.RangeWalk.{is_above}
 use Rattle.mesh_model.proofs.FieldLemmas.FirstFound.{first_same, found_first, one_more_none}
 use Rattle.block_store.specs.Above.{above_at, first_in_row}
-use Rattle.block_store.specs.declared.above.Above.{Above}
 
 -- it is found here, or nothing is
 pub found_here : {A : Type 0} (n m : ℕ) (at : ℕ → Option A) (r : Option A) → first_below m at ≡ None → r ≡ at m → is_some r ≡ true → m < n → r ≡ first_below n at

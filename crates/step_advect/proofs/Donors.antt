@@ -1,5 +1,5 @@
 -- The donors of a block's faces stand in its array beside them.
-use Rattle.std.proofs.Common.{◌≡◌, ℕ, zero, suc, ◌+◌, ◌-◌, ◌*◌, ◌%◌, ◌^◌, ◌<◌, ◌≤◌, ◌⊎◌, Bool, true, false, ℤ, pos, negsuc, ◌-ℤ◌, refl, sym, ap, ap₂, ◌∙◌, arith, inl, inr, mod-eq_of_lt}
+use Rattle.std.proofs.Common.{◌≡◌, ℕ, ◌+◌, ◌-◌, ◌*◌, ◌^◌, ◌<◌, ◌≤◌, Bool, true, false, ℤ, pos, negsuc, ◌-ℤ◌, refl, sym, ap, ◌∙◌, arith, inl, inr, mod-eq_of_lt}
 use Rattle.std.proofs.Math.Nat.{mul-le-mul_left}
 use Rattle.std.proofs.lemmas.Int.{ints}
 use Rattle.amr_num.specs.declared.Axis.{Axis}
@@ -18,7 +18,6 @@ use Rattle.mesh_model.specs.Fields.Advect.{blown_from}
 use Rattle.mesh_model.specs.Fields.ArrayPlaces.{HoldsGuards, cell_there}
 use Rattle.mesh_model.specs.Fields.Views.{cell_view}
 use Rattle.mesh_model.proofs.FieldLemmas.Donors.{donor_inside}
-use Rattle.step_advect.specs.Flux.{donor_of}
 use Rattle.step_advect.specs.Fluxed.{along, donor_at, lower_by}
 
 brought_same : (periodic : Bool) (e p : ℕ) → p < e → brought_in periodic e (e - 1) (pos p) ≡ p

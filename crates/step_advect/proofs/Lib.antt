@@ -9,4 +9,5 @@ pub mod Refusals
 pub mod Rows
 pub mod Seams
 pub mod Sides
+pub mod Small
 pub mod Telescopes

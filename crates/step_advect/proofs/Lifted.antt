@@ -1,5 +1,5 @@
 -- The fluxes of a block that has its guard values are the mesh's.
-use Rattle.std.proofs.Common.{◌≡◌, ℕ, suc, ◌+◌, ◌*◌, ◌^◌, ◌<◌, Bool, ◌&&◌, ◌||◌, ◌==◌, List, ℤ, pos, sym, ap, ap₂, ◌∙◌, arith}
+use Rattle.std.proofs.Common.{◌≡◌, ℕ, suc, ◌*◌, ◌^◌, ◌<◌, Bool, ◌&&◌, ◌||◌, ◌==◌, List, ℤ, pos, ap₂, ◌∙◌, arith}
 use Rattle.std.specs.Prelude.{if◌then◌else◌}
 use Rattle.amr_num.specs.Numbers.{carry}
 use Rattle.amr_num.specs.declared.Axis.{Axis}
@@ -8,17 +8,17 @@ use Rattle.amr_num.specs.declared.BlockAt.{BlockAt}
 use Rattle.amr_num.specs.declared.CellAt.{CellAt}
 use Rattle.mesh_model.specs.declared.geometry.Shape.{Shape}
 use Rattle.mesh_model.specs.Geometry.Blocks.{InDomain}
-use Rattle.mesh_model.specs.Geometry.Coordinates.{extent, face_of, on, roots, side_index, side_kind}
+use Rattle.mesh_model.specs.Geometry.Coordinates.{face_of, roots, side_index, side_kind}
 use Rattle.mesh_model.specs.Geometry.Limits.{IsShape}
 use Rattle.mesh_model.specs.Geometry.Places.{in_block, longer_on}
 use Rattle.mesh_model.specs.Geometry.Touch.{block_on}
 use Rattle.mesh_model.specs.Tree.Kinds.{Grid}
-use Rattle.mesh_model.specs.Fields.Advect.{Speeds, blown_from, is_closed_kind, leaf_flux, on_closed_side, speed}
+use Rattle.mesh_model.specs.Fields.Advect.{Speeds, blown_from, is_closed_kind, leaf_flux, on_closed_side}
 use Rattle.mesh_model.specs.Fields.ArrayPlaces.{HoldsFaceField, HoldsGuards, cell_extents, face_extents, number_at}
 use Rattle.mesh_model.specs.Fields.Views.{cell_view}
 use Rattle.mesh_model.proofs.GeometryLemmas.ShapeLimits.{cells_some}
 use Rattle.step_advect.specs.Flux.{flux_between}
-use Rattle.step_advect.specs.Fluxed.{Flow, IsFluxed, along, flux_at, is_on_side}
+use Rattle.step_advect.specs.Fluxed.{Flow, IsFluxed, along, is_on_side}
 use Rattle.step_advect.specs.Lifts.{IsFlowOf}
 use Rattle.step_advect.proofs.Donors.{block_inside, donor_is, position_is, position_within}
 use Rattle.step_advect.proofs.Seams.{flux_named}

@@ -1,15 +1,13 @@
 -- What flows out through the outer sides of a block is what its cells lose through those of the domain.
-use Rattle.std.proofs.Common.{◌≡◌, ℕ, suc, ◌+◌, ◌*◌, ◌^◌, ◌<◌, ◌≤◌, Bool, true, false, not, ◌&&◌, ◌||◌, ◌==◌, List, ℤ, pos, ◌+ℤ◌, ◌-ℤ◌, refl, sym, ap, ap₂, subst, ◌∙◌, arith}
+use Rattle.std.proofs.Common.{◌≡◌, ℕ, suc, ◌+◌, ◌*◌, ◌^◌, ◌<◌, ◌≤◌, Bool, true, false, not, ◌&&◌, ◌||◌, ◌==◌, List, ℤ, pos, ◌+ℤ◌, ◌-ℤ◌, refl, sym, ap, ap₂, ◌∙◌, arith}
 use Rattle.std.specs.Prelude.{if◌then◌else◌}
 use Rattle.amr_num.specs.declared.Axis.{Axis}
 use Rattle.amr_num.specs.declared.Axis.TheVariants.{X, Y, Z}
 use Rattle.amr_num.specs.declared.BlockAt.{BlockAt}
 use Rattle.amr_num.specs.declared.CellAt.{CellAt}
 use Rattle.amr_num.specs.declared.FaceAt.{FaceAt}
-use Rattle.mesh_model.specs.declared.geometry.Shape.{Shape}
 use Rattle.mesh_model.specs.Geometry.Blocks.{InDomain}
-use Rattle.mesh_model.specs.Geometry.Coordinates.{after, extent, face_of, is_periodic, on, roots, side_index, with, wrapped}
-use Rattle.mesh_model.specs.Geometry.Limits.{IsShape}
+use Rattle.mesh_model.specs.Geometry.Coordinates.{after, extent, face_of, is_periodic, on, roots, side_index, wrapped}
 use Rattle.mesh_model.specs.Geometry.Places.{in_block}
 use Rattle.mesh_model.specs.Geometry.Touch.{block_on}
 use Rattle.mesh_model.specs.Tree.Kinds.{Grid, is_leaf_block}
@@ -17,7 +15,7 @@ use Rattle.mesh_model.specs.Tree.ValidGrid.{Valid}
 use Rattle.mesh_model.specs.Fields.Advect.{Speeds, flux, on_outer, on_outer_side}
 use Rattle.mesh_model.specs.Fields.ArrayPlaces.{HoldsFaceField, face_extents, number_at}
 use Rattle.mesh_model.specs.Fields.Circulation.{net_flux}
-use Rattle.mesh_model.specs.Fields.Totals.{block_sum, box_sum}
+use Rattle.mesh_model.specs.Fields.Totals.{block_sum}
 use Rattle.mesh_model.proofs.FieldLemmas.Sums.{box_add, box_same}
 use Rattle.mesh_model.proofs.GeometryLemmas.OnAxes.{on_with, with_level}
 use Rattle.mesh_model.proofs.GeometryLemmas.ShapeLimits.{cells_some}

@@ -1,5 +1,5 @@
 -- Sums that grow by one number.
-use Rattle.std.proofs.Common.{◌≡◌, ℕ, suc, ◌+◌, ◌*◌, ◌≤◌, ℤ, ◌+ℤ◌, ap, ap₂, subst, sym, ◌∙◌, arith}
+use Rattle.std.proofs.Common.{◌≡◌, ℕ, suc, ◌+◌, ◌*◌, ℤ, ◌+ℤ◌, ap, ap₂, subst, sym, ◌∙◌, arith}
 use Rattle.amr_num.specs.Numbers.{Within, sum_below}
 use Rattle.amr_num.proofs.Sizes.{within_add}
 

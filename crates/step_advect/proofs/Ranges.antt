@@ -1,11 +1,11 @@
 -- The first content of a block that is out of range.
-use Rattle.std.proofs.Common.{◌≡◌, ℕ, zero, suc, ◌+◌, ◌<◌, ◌^◌, Bool, true, false, ℤ, Option, Some, None, inl, inr, refl, sym, ap, subst, ◌∙◌, arith}
+use Rattle.std.proofs.Common.{◌≡◌, ℕ, zero, suc, ◌<◌, ◌^◌, Bool, true, false, ℤ, Option, Some, None, inl, inr, refl, sym, ap, subst, ◌∙◌, arith}
 use Rattle.std.specs.Prelude.{if◌then◌else◌, unsigned_abs}
 use Rattle.std.specs.Option.{option_map, option_or}
 use Rattle.std.proofs.lemmas.Bool.{cases_lt, le-ltb, lt-ltb}
 use Rattle.amr_num.specs.Numbers.{Within, number_range}
 use Rattle.amr_num.specs.declared.Axis.TheVariants.{X}
-use Rattle.mesh_model.specs.Fields.Firsts.{first_below, first_in_box}
+use Rattle.mesh_model.specs.Fields.Firsts.{first_below}
 use Rattle.mesh_model.specs.Fields.RangeWalk.{is_above}
 use Rattle.mesh_model.proofs.FieldLemmas.FirstFound.{box_mapped, box_same}
 use Rattle.block_store.proofs.Aboves.{none_found}

@@ -1,8 +1,7 @@
 -- The first of a block's cells that is refused is the mesh's.
-use Rattle.std.proofs.Common.{◌≡◌, ℕ, ◌<◌, Bool, true, false, List, ℤ, pos, Option, Some, None, refl, sym, ap, ◌∙◌}
-use Rattle.std.specs.Prelude.{if◌then◌else◌, unwrap_or, unsigned_abs}
+use Rattle.std.proofs.Common.{◌≡◌, ℕ, ◌<◌, Bool, true, false, List, ℤ, pos, Some, None, refl, sym, ap, ◌∙◌}
+use Rattle.std.specs.Prelude.{if◌then◌else◌, unwrap_or}
 use Rattle.std.specs.Option.{option_map}
-use Rattle.std.proofs.lemmas.Bool.{le-ltb}
 use Rattle.amr_num.specs.Numbers.{number_range}
 use Rattle.amr_num.specs.declared.Axis.TheVariants.{X}
 use Rattle.amr_num.specs.declared.BlockAt.{BlockAt}

@@ -1,5 +1,5 @@
 -- The net outflows of a block's cells add up to what flows through its sides.
-use Rattle.std.proofs.Common.{◌≡◌, ℕ, zero, suc, ◌+◌, ◌<◌, Bool, true, false, ◌&&◌, ◌||◌, ◌==◌, ℤ, pos, ◌+ℤ◌, ◌-ℤ◌, refl, sym, ap, ap₂, ◌∙◌, arith}
+use Rattle.std.proofs.Common.{◌≡◌, ℕ, zero, suc, ◌+◌, ◌<◌, Bool, true, false, ◌&&◌, ◌||◌, ◌==◌, ℤ, pos, ◌-ℤ◌, refl, ap, ap₂, ◌∙◌, arith}
 use Rattle.std.specs.Prelude.{if◌then◌else◌}
 use Rattle.std.proofs.lemmas.Int.{ints}
 use Rattle.std.proofs.lemmas.Bool.Decides.{nat_tests}
@@ -9,7 +9,7 @@ use Rattle.amr_num.specs.declared.Axis.TheVariants.{X, Y, Z}
 use Rattle.amr_num.proofs.Parts.{sum_below_same}
 use Rattle.mesh_model.specs.Fields.Totals.{box_sum}
 use Rattle.mesh_model.proofs.FieldLemmas.Sums.{sum_below_sub, sum_below_zero}
-use Rattle.step_advect.specs.Applied.{face_on, out_along, side_sum}
+use Rattle.step_advect.specs.Applied.{out_along, side_sum}
 use Rattle.step_advect.specs.Fluxed.{along, is_on_side}
 use Rattle.step_advect.proofs.Nets.{upper}
 

@@ -1,5 +1,5 @@
 -- Fluxes through the faces of a block normal to an axis, from the numbers of its cells with their guards, by places.
-use Rattle.std.specs.Prelude.{◌≡◌, ℕ, ◌+◌, ◌-◌, ◌<◌, Bool, ◌&&◌, ◌||◌, ◌==◌, List, ℤ, pos, if◌then◌else◌}
+use Rattle.std.specs.Prelude.{ℕ, ◌+◌, ◌-◌, ◌<◌, Bool, ◌&&◌, ◌||◌, ◌==◌, List, ℤ, pos, if◌then◌else◌}
 use Rattle.amr_num.specs.Numbers.{Within, carry}
 use Rattle.amr_num.specs.declared.Axis.{Axis}
 use Rattle.amr_num.specs.declared.Axis.TheVariants.{X, Y, Z}

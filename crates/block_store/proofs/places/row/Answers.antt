@@ -1,4 +1,4 @@
-use Rattle.std.proofs.Common.{◌≡◌, ◌+◌, ◌≤◌, arith, ap, drop, get_or, length, pos, sym, ◌∙◌, rules}
+use Rattle.std.proofs.Common.{◌+◌, ◌≤◌, arith, ap, drop, get_or, length, pos, sym, ◌∙◌, rules}
 use Rattle.std.proofs.lemmas.List.{get_or-drop, get_or-take}
 use Rattle.mesh_model.proofs.FieldLemmas.BlockPlaces.{along_row, row_inside}
 use Rattle.block_store.proofs.places.row.Goals as goal

@@ -1,10 +1,10 @@
 use borrow.Rule.Slice.PartMut.{put_mid}
-use Rattle.std.proofs.Common.{◌≡◌, ◌+◌, ◌-◌, ◌*◌, ◌/◌, ◌%◌, ◌<◌, ◌≤◌, ◌^◌, ℕ, ℤ, arith, ap, drop, get_or, length, pos, subst, sym, ◌∙◌, rules, take}
-use Rattle.std.proofs.lemmas.List.{length-drop, length-take, length-take-le}
+use Rattle.std.proofs.Common.{◌≡◌, ◌+◌, ◌-◌, ◌/◌, ◌%◌, ◌<◌, ◌≤◌, ℕ, ℤ, arith, ap, drop, get_or, length, pos, subst, sym, ◌∙◌, rules, take}
+use Rattle.std.proofs.lemmas.List.{length-drop, length-take-le}
 use Rattle.amr_num.specs.declared.Axis.TheVariants.{X, Y, Z}
-use Rattle.mesh_model.specs.Fields.ArrayPlaces.{IsRowWritten, cell_extents, face_extents, interior, place_in, row_of, size_of}
-use Rattle.mesh_model.proofs.FieldLemmas.BlockPlaces.{interior_fits, row_fits, row_put, row_y, row_z}
-use Rattle.step_advect.specs.Applied.{AreRowsSmall, Flows, flows_in, left_at}
+use Rattle.mesh_model.specs.Fields.ArrayPlaces.{IsRowWritten, cell_extents, face_extents, interior, place_in, row_of}
+use Rattle.mesh_model.proofs.FieldLemmas.BlockPlaces.{interior_fits, row_fits, row_put}
+use Rattle.step_advect.specs.Applied.{Flows, flows_in, left_at}
 use Rattle.step_advect.proofs.Rows.{AreRowsOf, row_of_known, rows_left}
 use Rattle.step_advect.proofs.update.apply_row.Goals as goal
 
