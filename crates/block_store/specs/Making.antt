@@ -1,5 +1,5 @@
 -- Arrays of zeros.
-use Rattle.std.specs.Prelude.{◌≡◌, ℕ, ◌<◌, List, length, pos, replicate, ℤ, slice_index_or, []}
+use Rattle.std.specs.Prelude.{◌≡◌, ℕ, ◌+◌, ◌<◌, List, length, pos, replicate, ℤ, slice_index_or, []}
 use Rattle.mesh_model.specs.declared.fields.values.Var.{Var}
 use Rattle.mesh_model.specs.Fields.Arrays.{Counts, HasVar, array_count, array_number, block_in, var_length}
 
