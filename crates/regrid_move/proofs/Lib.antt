@@ -1,4 +1,3 @@
-pub mod Aboves
 pub mod Excess
 pub mod Moved
 pub mod Regridded

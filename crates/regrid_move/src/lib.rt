@@ -4,7 +4,6 @@
 //! end. So a refusal leaves the first as it was.
 #![tactic(auto)]
 
-mod above;
 mod leaves;
 mod moving;
 mod regridding;

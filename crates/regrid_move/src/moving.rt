@@ -9,9 +9,9 @@ ghost use Rattle.regrid_move.specs.Near.{LeavesMoved, MayMove, MayMoveAll, NodeM
 ghost use Rattle.rank_world.specs.Writing.{OnlyCells};
 ghost use Rattle.std.specs.Prelude.{◌≡◌, ◌<◌, ◌≤◌, ◌+◌, ◌*◌, ℕ, ℤ, None};
 
-use crate::above::{Above, block_above};
 use crate::leaves::move_leaf;
 use amr_num::{BlockAt, CellAt};
+use block_store::{Above, block_above};
 use mesh_model::{Group, RangeStop, Spot, Var};
 use rank_world::World;
 

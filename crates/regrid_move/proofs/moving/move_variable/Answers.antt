@@ -6,7 +6,7 @@ use Rattle.mesh_model.specs.Tree.Kinds.{Grid}
 use Rattle.mesh_model.specs.Fields.Ranks.{Told}
 use Rattle.rank_world.specs.Holding.{IsLeafNode}
 use Rattle.regrid_move.specs.Near.{NodeMoved, node_stop, stop_below}
-use Rattle.regrid_move.proofs.Aboves.{found_here, none_here}
+use Rattle.block_store.proofs.Aboves.{found_here, none_here}
 use Rattle.regrid_move.proofs.Steps.{cells_again, node_stays}
 use Rattle.regrid_move.proofs.moving.move_variable.Goals as goal
 
