@@ -1,28 +1,27 @@
 -- Nodes that are summed, octant by octant and node by node.
-use Rattle.std.proofs.Common.{◌≡◌, ◌≢◌, ℕ, suc, ◌+◌, ◌*◌, ◌/◌, ◌%◌, ◌<◌, ◌^◌, true, false, List, ℤ, sym, ap, subst, ◌∙◌, arith, below_more}
+use Rattle.std.proofs.Common.{◌≡◌, ◌≢◌, ℕ, suc, ◌+◌, ◌*◌, ◌/◌, ◌%◌, ◌<◌, ◌^◌, ◌⊎◌, true, false, List, ℤ, sym, ap, subst, ◌∙◌, arith, below_more}
 use Rattle.amr_num.specs.declared.BlockAt.{BlockAt}
 use Rattle.amr_num.specs.declared.CellAt.{CellAt}
 use Rattle.amr_num.specs.Numbers.{Within}
 use Rattle.mesh_model.specs.declared.fields.values.Var.TheVariants.{Cell}
+use Rattle.mesh_model.specs.declared.geometry.Shape.{Shape}
 use Rattle.mesh_model.specs.Geometry.Blocks.{child_block}
+use Rattle.mesh_model.specs.Geometry.Limits.{IsShape}
 use Rattle.mesh_model.specs.Geometry.Places.{in_block}
 use Rattle.mesh_model.specs.Tree.Kinds.{Grid, is_leaf_block, is_split, is_split_block}
-use Rattle.mesh_model.specs.Tree.Order.{Sorted, key, nodes}
 use Rattle.mesh_model.specs.Tree.ValidGrid.{Valid}
-use Rattle.mesh_model.specs.Fields.ArrayPlaces.{HoldsViews, cell_extents, number_at}
+use Rattle.mesh_model.specs.Fields.ArrayPlaces.{HoldsViews, IsSize, cell_extents, number_at}
 use Rattle.mesh_model.specs.Fields.Octants.{IsRestricted, OctantHolds, SumsAreSmall, cells_of, half_at}
 use Rattle.mesh_model.specs.Fields.Ranks.{IsSized, OnlyOf, Told, WorldState}
 use Rattle.mesh_model.proofs.FieldLemmas.BlockOctants.{block_of_cell, eight_view, few_sized, octant_summed, other_octant, restricted_sized}
+use Rattle.mesh_model.specs.Fields.Laws.{leaf_cells}
+use Rattle.mesh_model.specs.Fields.Views.{cell_view}
+use Rattle.mesh_model.proofs.FieldLemmas.Bounds.{split_view_within, wider}
+use Rattle.mesh_model.proofs.FieldLemmas.KeptValid.{leaf_cells_few}
 use Rattle.mesh_model.proofs.GeometryLemmas.Halves.{in_half}
-use Rattle.morton_key.proofs.Placing.{parent_first}
-use Rattle.block_tree.specs.declared.tree.Tree.{Tree}
-use Rattle.block_tree.specs.GridOf.{grid_of}
-use Rattle.block_tree.specs.Numbered.{IsNode, IsNumberOf, block_at}
-use Rattle.block_tree.proofs.Facts.{known}
-use Rattle.block_tree.proofs.Members.{before_at}
-use Rattle.block_tree.proofs.Numbers.{inner_room, kept_sorted}
-use Rattle.rank_world.specs.Holding.{IsLeafNode, NodeHolds, OnlyCells, cell_array}
-use Rattle.guard_fill.specs.Restricting.{OnlyParents, SplitViewsAreSmall}
+use Rattle.block_tree.specs.Numbered.{IsNumberOf, block_at}
+use Rattle.rank_world.specs.Holding.{IsLeafNode, IsOfValidMesh, NodeHolds, OnlyCells, cell_array}
+use Rattle.guard_fill.specs.Restricting.{HoldSmallField, OnlyParents, SplitViewsAreSmall}
 
 -- one more octant is summed
 pub octant_step : (g : Grid) (n e : ℕ) (content : CellAt → ℤ) (b : BlockAt) (q : ℕ) (child old new : List ℤ) → Valid g → IsSized n e g.shape → q < 8 →
@@ -39,16 +38,6 @@ pub child_apart : (g : Grid) (node q child : ℕ) → IsNumberOf g (child_block 
 child_apart g node q child found same =
     let level : (block_at g node).level ≡ suc (block_at g node).level = ap (λ i. (block_at g i).level) (sym same) ∙ ap (λ (x : BlockAt). x.level) found.block in
     absurd (omega arith)
-
--- a child comes after its parent
-pub child_later : (t : Tree) (node q child : ℕ) → IsNode (grid_of t) node → is_leaf_block (grid_of t) (block_at (grid_of t) node) ≡ false → q < 8 →
-    IsNumberOf (grid_of t) (child_block (block_at (grid_of t) node) q) child → node < child
-unfolding block_at
-child_later t node q child there inner hq found =
-    let all = nodes (grid_of t).leaves in
-    let sorted : Sorted all = subst Sorted (sym (known t).whole) (kept_sorted t) in
-    let rises = parent_first (block_at (grid_of t) node) q (inner_room t node there inner) hq in
-    before_at all sorted node child there found.there (subst (λ d. key (block_at (grid_of t) node) < key d) (sym found.block) rises)
 
 -- the sums of the cells of a split block's child are small enough
 pub sums_small : (g : Grid) (n e : ℕ) (content : CellAt → ℤ) (b : BlockAt) (q : ℕ) (child : List ℤ) → Valid g → IsSized n e g.shape → SplitViewsAreSmall g content →
@@ -85,3 +74,26 @@ parents_step a b c v node before here inner = record {
       here.here.others (Cell v) k (λ e s. (let yes : is_leaf_block a.told.grid (block_at a.told.grid node) ≡ true = ap (λ i. is_leaf_block a.told.grid (block_at a.told.grid i)) (sym s) ∙ leaf.leaf in cc))
       ∙ before.leaves k leaf;
 }
+
+-- ---- sizes and fields
+
+-- a world's blocks have a shape's sizes
+pub size_of_shape : (n e : ℕ) (s t : Shape) → IsShape t → t ≡ s → IsSized n e s → IsSize n e
+size_of_shape n e s t shape same sized =
+    let here : IsShape s = subst IsShape same shape in
+    record {
+      cells = subst (λ m. (m ≡ 4) ⊎ (m ≡ 8)) sized.cells here.cells;
+      guards = subst (λ m. (m ≡ 1) ⊎ ((m ≡ 2) ⊎ (m ≡ 4))) sized.guards here.guards;
+    }
+
+-- in a valid mesh the views of split cells are small enough
+pub of_small_field : (w : WorldState) (v : ℕ) → IsOfValidMesh w → v < w.told.counts.cells → HoldSmallField w v
+of_small_field w v of within =
+    let m = of.mesh in
+    record {
+      content = m.cells v;
+      leaves = of.world.contents v within;
+      small = subst (λ (h : Grid). SplitViewsAreSmall h (m.cells v)) (sym of.world.grid)
+          (λ c split. wider (cell_view m.grid (m.cells v) c) (2 ^ 40 * leaf_cells m.grid) (2 ^ 62)
+          (split_view_within m.grid of.valid.grid (m.cells v) (2 ^ 40) (λ d leaf. of.valid.range.cells v d) c split) (leaf_cells_few m of.valid));
+    }
