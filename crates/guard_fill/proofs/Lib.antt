@@ -1,1 +1,3 @@
+pub mod AxisStrips
+pub mod PatchRows
 pub mod Restricted

@@ -1,1 +1,3 @@
+pub mod Filling
 pub mod Restricting
+pub mod Strips

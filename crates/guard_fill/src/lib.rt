@@ -1,6 +1,8 @@
 //! Sums of finer blocks in all nodes above the leaves, and guard cells round the leaves.
 #![tactic(auto)]
 
+mod copying;
 mod restricting;
+mod strips;
 
 pub use restricting::restrict_all;
