@@ -1,15 +1,20 @@
 -- The strips of an axis.
-use Rattle.std.proofs.Common.{◌≡◌, ℕ, zero, suc, ◌+◌, ◌-◌, ◌*◌, ◌%◌, ◌<◌, ◌≤◌, ◌⊎◌, Bool, true, false, min, Option, Some, None, ℤ, pos, negsuc, ◌-ℤ◌, nat_lt, refl, sym, ap, subst, ◌∙◌, arith, inl, inr, mod-eq_of_lt, if◌then◌else◌}
+use Rattle.std.proofs.Common.{◌≡◌, ℕ, zero, suc, ◌+◌, ◌-◌, ◌*◌, ◌/◌, ◌%◌, ◌<◌, ◌≤◌, ◌⊎◌, Bool, true, false, min, Option, Some, None, ℤ, pos, negsuc, ◌-ℤ◌, nat_lt, refl, sym, ap, subst, ◌∙◌, arith, inl, inr, mod-eq_of_lt, pow_mono, ◌^◌, if◌then◌else◌}
 use Rattle.std.proofs.Math.Nat.{add-mul-mod_self_left, mul-le-mul_left}
+use Rattle.std.proofs.lemmas.Nat.{mul-le}
 use Rattle.std.proofs.lemmas.Int.{ints}
 use Rattle.std.proofs.lemmas.Bool.{cases_lt, lt-ltb, le-ltb}
 use Rattle.amr_num.specs.Numbers.{floor_mod}
 use Rattle.mesh_model.specs.Fields.ArrayPlaces.{IsSize}
-use Rattle.mesh_model.specs.Geometry.Coordinates.{above, below}
+use Rattle.amr_num.specs.declared.Axis.TheVariants.{X, Y, Z}
+use Rattle.amr_num.specs.declared.BlockAt.{BlockAt}
+use Rattle.mesh_model.specs.declared.geometry.Shape.{Shape}
+use Rattle.mesh_model.specs.Geometry.Coordinates.{above, below, is_periodic, roots}
 use Rattle.mesh_model.specs.Geometry.Outside.{brought_in}
 use Rattle.mesh_model.specs.Geometry.Places.{guard_index}
+use Rattle.guard_fill.specs.declared.strips.Patch.{Patch}
 use Rattle.guard_fill.specs.declared.strips.Strip.{Strip}
-use Rattle.guard_fill.specs.Strips.{IsStrip}
+use Rattle.guard_fill.specs.Strips.{AreWithin, IsPatch, IsStrip, IsWithin}
 
 pub guards_least : {n g : ℕ} → IsSize n g → (0 < g) × (g ≤ 4)
 guards_least size = elim size.guards [ inl e ↦ (omega arith, omega arith) | inr (inl e) ↦ (omega arith, omega arith) | inr (inr e) ↦ (omega arith, omega arith) ]
@@ -237,3 +242,20 @@ behind_same n g periodic blocks b size h is = elim (cases_lt (b + 1) blocks) [
           cells = λ t l. omega arith;
           stand = λ t l. high_clamped n g blocks b size h t l last;
         }
+
+-- the blocks of an axis are few enough for the machine
+pub few_blocks : (r l : ℕ) → r ≤ 8 → l ≤ 10 → r * 2 ^ l % 4294967296 ≡ r * 2 ^ l
+few_blocks r l few deep = let most = mul-le r (2 ^ l) 8 1024 few (pow_mono {j = 10} deep) in mod-eq_of_lt (omega arith)
+
+-- the places of a direction lie within an array
+strip_within : (n g : ℕ) (periodic : Bool) (blocks b d : ℕ) (s : Strip) → IsSize n g → d < 3 → IsStrip n g periodic blocks b d s → IsWithin n g s
+strip_within n g periodic blocks b zero s size h is = let few = guards_least size in let to = is.to in let many = is.many in record { some = omega arith; places = omega arith; cells = is.cells }
+strip_within n g periodic blocks b (suc zero) s size h is = let least = cells_least size in let to = is.to in let many = is.many in record { some = omega arith; places = omega arith; cells = is.cells }
+strip_within n g periodic blocks b (suc (suc d)) s size h is = let few = guards_least size in let to = is.to in let many = is.many in record { some = omega arith; places = omega arith; cells = is.cells }
+
+pub patch_within : (n g : ℕ) (s : Shape) (b : BlockAt) (d : ℕ) (p : Patch) → IsSize n g → d < 27 → IsPatch n g s b d p → AreWithin n g p
+patch_within n g s b d p size h is = record {
+  x = strip_within n g (is_periodic s X) (roots s X * 2 ^ b.level) b.x (d % 3) p.x size (omega arith) is.x;
+  y = strip_within n g (is_periodic s Y) (roots s Y * 2 ^ b.level) b.y (d / 3 % 3) p.y size (omega arith) is.y;
+  z = strip_within n g (is_periodic s Z) (roots s Z * 2 ^ b.level) b.z (d / 9) p.z size (omega arith) is.z;
+}

@@ -2,7 +2,11 @@
 --
 -- A direction is 0, 1 or 2 on each axis, as guard cells lie before the block's own cells, beside them or behind them. All the guard cells of a
 -- block in one direction have their numbers from the cells of one block.
-use Rattle.std.specs.Prelude.{◌≡◌, ℕ, zero, suc, ◌+◌, ◌-◌, ◌*◌, ◌<◌, ◌≤◌, ◌⊎◌, Bool, true, ℤ}
+use Rattle.std.specs.Prelude.{◌≡◌, ℕ, zero, suc, ◌+◌, ◌-◌, ◌*◌, ◌/◌, ◌%◌, ◌^◌, ◌<◌, ◌≤◌, ◌⊎◌, Bool, true, ℤ, nat_lt, if◌then◌else◌}
+use Rattle.amr_num.specs.declared.Axis.TheVariants.{X, Y, Z}
+use Rattle.amr_num.specs.declared.BlockAt.{BlockAt}
+use Rattle.mesh_model.specs.declared.geometry.Shape.{Shape}
+use Rattle.mesh_model.specs.Geometry.Coordinates.{is_periodic, roots}
 use Rattle.mesh_model.specs.Fields.ArrayPlaces.{Box, side}
 use Rattle.mesh_model.specs.Geometry.Outside.{brought_in}
 use Rattle.mesh_model.specs.Geometry.Places.{guard_index}
@@ -60,3 +64,20 @@ pub record IsStrip (n g : ℕ) (periodic : Bool) (blocks b direction : ℕ) (s :
   pub beside : IsBeside periodic blocks b s.block
   pub cells : (t : ℕ) → t < s.many → cell_at s t < n
   pub stand : (t : ℕ) → t < s.many → brought_in periodic (blocks * n) (blocks * n - 1) (guard_index n g b (s.to + t)) ≡ n * s.block + cell_at s t
+
+-- the patch has the places of a block in the direction d, which counts x first, then y by threes, then z by nines
+pub record IsPatch (n g : ℕ) (s : Shape) (b : BlockAt) (d : ℕ) (p : Patch) : Type 0 where
+  pub x : IsStrip n g (is_periodic s X) (roots s X * 2 ^ b.level) b.x (d % 3) p.x
+  pub y : IsStrip n g (is_periodic s Y) (roots s Y * 2 ^ b.level) b.y (d / 3 % 3) p.y
+  pub z : IsStrip n g (is_periodic s Z) (roots s Z * 2 ^ b.level) b.z (d / 9) p.z
+
+-- the block from whose cells a patch has its numbers
+abbrev pub block_of : ℕ → Patch → BlockAt
+block_of level p = record { level = level; x = p.x.block; y = p.y.block; z = p.z.block }
+
+-- in which direction a place lies on an axis, and in all
+abbrev pub side_at : ℕ → ℕ → ℕ → ℕ
+side_at n g i = if nat_lt i g then 0 else (if nat_lt i (g + n) then 1 else 2)
+
+abbrev pub direction_at : ℕ → ℕ → ℕ → ℕ → ℕ → ℕ
+direction_at n g i j k = side_at n g i + 3 * side_at n g j + 9 * side_at n g k

@@ -2,7 +2,9 @@
 #![tactic(auto)]
 
 mod copying;
+mod filling;
 mod restricting;
 mod strips;
 
+pub use filling::fill;
 pub use restricting::restrict_all;
