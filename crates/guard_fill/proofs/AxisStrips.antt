@@ -1,5 +1,5 @@
 -- The strips of an axis.
-use Rattle.std.proofs.Common.{◌≡◌, ℕ, zero, suc, ◌+◌, ◌-◌, ◌*◌, ◌/◌, ◌%◌, ◌<◌, ◌≤◌, ◌⊎◌, Bool, true, false, min, Option, Some, None, ℤ, pos, negsuc, ◌-ℤ◌, nat_lt, refl, sym, ap, subst, ◌∙◌, arith, inl, inr, mod-eq_of_lt, pow_mono, ◌^◌, if◌then◌else◌}
+use Rattle.std.proofs.Common.{◌≡◌, ℕ, zero, suc, ◌+◌, ◌-◌, ◌*◌, ◌/◌, ◌%◌, ◌<◌, ◌≤◌, Bool, true, false, min, Option, Some, None, pos, negsuc, nat_lt, refl, sym, ap, ◌∙◌, arith, inl, inr, mod-eq_of_lt, pow_mono, ◌^◌, if◌then◌else◌}
 use Rattle.std.proofs.Math.Nat.{add-mul-mod_self_left, mul-le-mul_left}
 use Rattle.std.proofs.lemmas.Nat.{mul-le}
 use Rattle.std.proofs.lemmas.Int.{ints}

@@ -1,15 +1,14 @@
 -- Worlds whose leaves are filled one after the other.
-use Rattle.std.proofs.Common.{◌≡◌, ◌≢◌, ℕ, ◌+◌, ◌<◌, true, false, List, ℤ, refl, sym, ap, subst, ◌∙◌, arith, inl, inr, below_more}
+use Rattle.std.proofs.Common.{◌≡◌, ◌≢◌, ℕ, ◌+◌, ◌<◌, List, ℤ, refl, sym, ap, subst, ◌∙◌, arith, inl, inr, below_more}
 use Rattle.std.proofs.lemmas.Bool.{cases_Bool, cases_order}
-use Rattle.amr_num.specs.declared.BlockAt.{BlockAt}
 use Rattle.amr_num.specs.declared.CellAt.{CellAt}
 use Rattle.mesh_model.specs.declared.fields.values.Var.TheVariants.{Cell}
 use Rattle.mesh_model.specs.Fields.ArrayPlaces.{HoldsGuards, HoldsViews, cell_extents, number_at, side}
 use Rattle.mesh_model.specs.Fields.Octants.{cells_of}
 use Rattle.mesh_model.specs.Fields.Ranks.{IsSized, OnlyOf, Told, WorldState}
-use Rattle.mesh_model.specs.Tree.Kinds.{Grid, is_leaf_block}
+use Rattle.mesh_model.specs.Tree.Kinds.{is_leaf_block}
 use Rattle.block_tree.specs.Numbered.{IsNode, block_at}
-use Rattle.rank_world.specs.Holding.{IsLeafNode, LeavesHold, NodeHolds, NodesHold, OnlyCells, cell_array, numbers_of}
+use Rattle.rank_world.specs.Holding.{IsLeafNode, LeavesHold, NodeHolds, NodesHold, cell_array, numbers_of}
 use Rattle.guard_fill.specs.Filling.{IsGathered, NodeGuarded, OnlyGuards, guard_at}
 use Rattle.guard_fill.proofs.Gathering.{gathered_all}
 use Rattle.guard_fill.proofs.Restricted.{cells_step, node_along}

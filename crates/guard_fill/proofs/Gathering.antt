@@ -1,22 +1,20 @@
 -- Arrays that are gathered direction by direction.
-use Rattle.std.proofs.Common.{◌≡◌, ◌≢◌, ℕ, ◌+◌, ◌-◌, ◌*◌, ◌<◌, ◌^◌, List, ℤ, refl, sym, ap, ap₂, subst, ◌∙◌, arith, inl, inr}
+use Rattle.std.proofs.Common.{◌≡◌, ◌≢◌, ℕ, ◌+◌, ◌*◌, ◌<◌, ◌^◌, List, ℤ, refl, sym, ap, ap₂, subst, ◌∙◌, arith, inl, inr}
 use Rattle.std.proofs.lemmas.Bool.{cases_lt}
 use Rattle.amr_num.specs.declared.Axis.TheVariants.{X, Y, Z}
 use Rattle.amr_num.specs.declared.BlockAt.{BlockAt}
 use Rattle.amr_num.specs.declared.CellAt.{CellAt}
-use Rattle.mesh_model.specs.declared.geometry.Shape.{Shape}
 use Rattle.mesh_model.specs.Fields.ArrayPlaces.{cell_extents, number_at, side}
 use Rattle.mesh_model.specs.Fields.Ranks.{IsSized, WorldState}
 use Rattle.mesh_model.specs.Fields.Views.{cell_view}
 use Rattle.mesh_model.specs.Geometry.Blocks.{InDomain}
 use Rattle.mesh_model.specs.Geometry.Coordinates.{is_periodic, roots}
-use Rattle.mesh_model.specs.Geometry.Places.{in_block}
 use Rattle.block_tree.specs.Numbered.{IsNode, block_at}
 use Rattle.rank_world.specs.Holding.{NodesHold, cell_array}
 use Rattle.guard_fill.specs.declared.strips.Patch.{Patch}
 use Rattle.guard_fill.specs.declared.strips.Strip.{Strip}
 use Rattle.guard_fill.specs.Filling.{IsFilled, IsGathered, IsGatheredTo, IsPatched, guard_at}
-use Rattle.guard_fill.specs.Strips.{IsPatch, block_of, direction_at, inner, side_at}
+use Rattle.guard_fill.specs.Strips.{IsPatch, direction_at, side_at}
 use Rattle.guard_fill.proofs.AxisStrips.{along_same}
 use Rattle.guard_fill.proofs.Patches.{direction_few, filled, side_of_place, views_at}
 

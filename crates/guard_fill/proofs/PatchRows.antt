@@ -1,14 +1,12 @@
 -- Rows of patches.
 use borrow.Rule.Slice.PartMut.{put_mid}
-use Rattle.std.proofs.Common.{◌≡◌, ℕ, ◌+◌, ◌-◌, ◌*◌, ◌/◌, ◌%◌, ◌<◌, ◌≤◌, ◌⊎◌, List, length, ℤ, pos, take, drop, subst, sym, ap, ap₂, ◌∙◌, arith}
-use Rattle.std.proofs.lemmas.List.{get_or-drop, get_or-take, length-drop, length-take-le}
-use Rattle.amr_num.specs.Numbers.{at, part}
-use Rattle.mesh_model.specs.Fields.ArrayPlaces.{Box, Extents, Fits, IsRowWritten, IsSize, cell_extents, number_at, place_in, row_of, size_of}
-use Rattle.mesh_model.specs.Fields.Octants.{half_at, parted}
-use Rattle.mesh_model.proofs.FieldLemmas.BlockPlaces.{row_fits, row_put, row_y, row_z}
-use Rattle.mesh_model.proofs.GeometryLemmas.Halves.{half_of, in_half}
+use Rattle.std.proofs.Common.{◌≡◌, ℕ, ◌+◌, ◌-◌, ◌*◌, ◌<◌, ◌≤◌, List, length, ℤ, take, drop, subst, sym, ◌∙◌, arith}
+use Rattle.std.proofs.lemmas.List.{length-drop, length-take-le}
+use Rattle.amr_num.specs.Numbers.{at}
+use Rattle.mesh_model.specs.Fields.ArrayPlaces.{Box, Extents, Fits, IsRowWritten, cell_extents, row_of, size_of}
+use Rattle.mesh_model.proofs.FieldLemmas.BlockPlaces.{row_fits, row_put}
 use Rattle.guard_fill.specs.declared.strips.Patch.{Patch}
-use Rattle.guard_fill.specs.Strips.{AreWithin, box_of, cell_at}
+use Rattle.guard_fill.specs.Strips.{AreWithin, box_of}
 
 -- a patch fits into an array
 pub patch_fits : (n g : ℕ) (p : Patch) → AreWithin n g p → Fits (cell_extents n g) (box_of p)

@@ -1,5 +1,5 @@
 -- Patches that get the views that belong there.
-use Rattle.std.proofs.Common.{◌≡◌, ℕ, zero, suc, ◌+◌, ◌-◌, ◌*◌, ◌/◌, ◌%◌, ◌^◌, ◌<◌, ◌≤◌, ◌⊎◌, Bool, true, false, List, ℤ, nat_lt, if◌then◌else◌, refl, sym, ap, ap₂, subst, ◌∙◌, arith, inl, inr}
+use Rattle.std.proofs.Common.{◌≡◌, ℕ, zero, suc, ◌+◌, ◌-◌, ◌*◌, ◌/◌, ◌%◌, ◌^◌, ◌<◌, ◌≤◌, false, List, ℤ, refl, sym, ap, ap₂, subst, ◌∙◌, arith, inl, inr}
 use Rattle.std.proofs.lemmas.Bool.{cases_lt, lt-ltb, le-ltb}
 use Rattle.amr_num.specs.declared.Axis.{Axis}
 use Rattle.amr_num.specs.declared.Axis.TheVariants.{X, Y, Z}
@@ -20,8 +20,8 @@ use Rattle.mesh_model.proofs.FieldLemmas.BlockOctants.{parts_are_views}
 use Rattle.rank_world.specs.Holding.{NodesHold}
 use Rattle.guard_fill.specs.declared.strips.Patch.{Patch}
 use Rattle.guard_fill.specs.declared.strips.Strip.{Strip}
-use Rattle.guard_fill.specs.Filling.{IsFilled, IsPatched, guard_at}
-use Rattle.guard_fill.specs.Strips.{AreWithin, IsPatch, IsStrip, IsWithin, begin_of, block_of, box_of, cell_at, direction_at, from_cells, inner, many_of, side_at}
+use Rattle.guard_fill.specs.Filling.{IsFilled, IsPatched}
+use Rattle.guard_fill.specs.Strips.{AreWithin, IsPatch, IsStrip, begin_of, block_of, box_of, cell_at, direction_at, from_cells, inner, many_of, side_at}
 
 -- ---- the numbers of a block's cells, in the sizes of a world's blocks
 

@@ -20,7 +20,7 @@ use Rattle.mesh_model.proofs.FieldLemmas.Bounds.{split_view_within, wider}
 use Rattle.mesh_model.proofs.FieldLemmas.KeptValid.{leaf_cells_few}
 use Rattle.mesh_model.proofs.GeometryLemmas.Halves.{in_half}
 use Rattle.block_tree.specs.Numbered.{IsNumberOf, block_at}
-use Rattle.rank_world.specs.Holding.{IsLeafNode, IsOfValidMesh, NodeHolds, OnlyCells, cell_array}
+use Rattle.rank_world.specs.Holding.{IsOfValidMesh, NodeHolds, OnlyCells, cell_array}
 use Rattle.guard_fill.specs.Restricting.{HoldSmallField, OnlyParents, SplitViewsAreSmall}
 
 -- one more octant is summed

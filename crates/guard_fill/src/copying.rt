@@ -64,14 +64,7 @@ fn part_row(x: Strip, octant: usize, cells: &[i64], out: &mut [i64])
 }
 
 /// Copies the `m`-th row of a strip from the cells of a block.
-fn copy_strip_row(
-    n: usize,
-    g: usize,
-    patch: Patch,
-    source: &[i64],
-    room: &mut [i64],
-    m: usize,
-)
+fn copy_strip_row(n: usize, g: usize, patch: Patch, source: &[i64], room: &mut [i64], m: usize)
     requires size { IsSize n g }
     requires within { AreWithin n g patch }
     requires source { length source.now ≡ size_of (cell_extents n g) }
@@ -89,13 +82,7 @@ fn copy_strip_row(
 }
 
 /// Copies a strip from the cells of a block.
-pub(crate) fn copy_strip(
-    n: usize,
-    g: usize,
-    patch: Patch,
-    source: &[i64],
-    room: &mut [i64],
-)
+pub(crate) fn copy_strip(n: usize, g: usize, patch: Patch, source: &[i64], room: &mut [i64])
     requires size { IsSize n g }
     requires within { AreWithin n g patch }
     requires source { length source.now ≡ size_of (cell_extents n g) }

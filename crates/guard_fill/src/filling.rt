@@ -154,12 +154,7 @@ fn fill_direction<const N: usize, const G: usize>(
 }
 
 /// Gathers the numbers of a leaf's array, its guard cells' among them.
-fn gather<const N: usize, const G: usize>(
-    world: &World<N, G>,
-    v: u32,
-    node: u32,
-    room: &mut [i64],
-)
+fn gather<const N: usize, const G: usize>(world: &World<N, G>, v: u32, node: u32, room: &mut [i64])
     requires size { IsSize N G }
     requires fit { IsFit N G world.now }
     requires variable { v < world.now.told.counts.cells }
@@ -193,17 +188,11 @@ fn fill_leaf<const N: usize, const G: usize>(
     ensures gathered { IsGathered N G world.old v node (cell_array world.new v node) }
 {
     gather(world, v, node, room);
-    world
-        .values_mut(Var::Cell(v), node)
-        .copy_from_slice(room);
+    world.values_mut(Var::Cell(v), node).copy_from_slice(room);
 }
 
 /// Writes the guard cells of all leaves.
-fn fill_variable<const N: usize, const G: usize>(
-    world: &mut World<N, G>,
-    v: u32,
-    room: &mut [i64],
-)
+fn fill_variable<const N: usize, const G: usize>(world: &mut World<N, G>, v: u32, room: &mut [i64])
     requires size { IsSize N G }
     requires fit { IsFit N G world.old }
     requires variable { v < world.old.told.counts.cells }

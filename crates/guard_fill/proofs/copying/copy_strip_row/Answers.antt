@@ -1,5 +1,4 @@
-use Rattle.std.proofs.Common.{rules, ◌≡◌, ◌+◌, ◌-◌, ◌*◌, ◌/◌, ◌%◌, ◌<◌, ◌≤◌, ℕ, ℤ, arith, ap, ap₂, length, subst, sym, ◌∙◌, refl, take, drop}
-use Rattle.amr_num.specs.Numbers.{at}
+use Rattle.std.proofs.Common.{rules, ◌+◌, ◌/◌, ◌%◌, ◌<◌, ◌≤◌, arith, ap₂, length, subst, ◌∙◌, refl}
 use Rattle.mesh_model.specs.Fields.ArrayPlaces.{cell_extents, number_at}
 use Rattle.mesh_model.proofs.FieldLemmas.BlockPlaces.{row_y, row_z}
 use Rattle.guard_fill.specs.Strips.{box_of, cell_at, from_cells, inner}

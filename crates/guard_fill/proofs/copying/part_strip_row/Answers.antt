@@ -1,7 +1,6 @@
-use Rattle.std.proofs.Common.{rules, ◌≡◌, ◌+◌, ◌-◌, ◌*◌, ◌/◌, ◌%◌, ◌<◌, ◌≤◌, ℕ, ℤ, arith, ap, ap₂, length, subst, sym, ◌∙◌, refl, take, drop}
-use Rattle.amr_num.specs.Numbers.{at}
+use Rattle.std.proofs.Common.{rules, ◌+◌, ◌/◌, ◌%◌, ◌<◌, ◌≤◌, arith, ap₂, length, subst, ◌∙◌, refl}
 use Rattle.mesh_model.specs.Fields.ArrayPlaces.{cell_extents, number_at}
-use Rattle.mesh_model.specs.Fields.Octants.{half_at, parted}
+use Rattle.mesh_model.specs.Fields.Octants.{parted}
 use Rattle.mesh_model.proofs.FieldLemmas.BlockPlaces.{row_y, row_z}
 use Rattle.mesh_model.proofs.GeometryLemmas.Halves.{half_of, in_half}
 use Rattle.prolong_op.proofs.Rows.{row_parts}

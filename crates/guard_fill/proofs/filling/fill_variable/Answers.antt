@@ -1,11 +1,11 @@
-use Rattle.std.proofs.Common.{◌≡◌, ◌+◌, ◌<◌, ◌∙◌, ap, arith, subst, sym, length, true, false, ℕ, below_more}
+use Rattle.std.proofs.Common.{◌≡◌, ◌<◌, ◌∙◌, ap, arith, subst, sym, length, true, false, below_more}
 use Rattle.mesh_model.specs.Tree.Kinds.{Grid, is_leaf_block}
 use Rattle.mesh_model.specs.Tree.Order.{nodes}
-use Rattle.mesh_model.specs.Fields.Ranks.{IsFit, Told}
+use Rattle.mesh_model.specs.Fields.Ranks.{Told}
 use Rattle.block_tree.specs.Numbered.{IsNode, block_at}
 use Rattle.rank_world.specs.Holding.{IsLeafNode}
 use Rattle.guard_fill.specs.Filling.{NodeGuarded}
-use Rattle.guard_fill.proofs.Filled.{none_filled, one_filled, one_guarded}
+use Rattle.guard_fill.proofs.Filled.{one_filled, one_guarded}
 use Rattle.guard_fill.proofs.filling.fill_variable.Goals as goal
 use Rattle.guard_fill.proofs.filling.fill_variable.Goals.{else-is_leaf, then-is_leaf}
 
@@ -28,8 +28,7 @@ fill_leaf-requires g c =
     let leaf : IsLeafNode mid.told.grid node = record {
       there = subst (λ (t : Told). IsNode t.grid node) (sym told) there;
       leaf = subst (λ (h : Grid). is_leaf_block h (block_at h node) ≡ true) c.tree-in-loop-node.ensures (sym c.is_leaf.ensures ∙ c.if-is_leaf.true);
-    } in
-    (
+    } in (
       omega arith,
       (
         c.requires.size,

@@ -1,6 +1,5 @@
-use Rattle.std.proofs.Common.{◌≡◌, ◌+◌, ◌*◌, ◌%◌, ◌<◌, ◌∙◌, ap, arith, subst, sym, List, ℕ, ℤ, true, false}
-use Rattle.mesh_model.specs.declared.fields.values.Var.TheVariants.{Cell}
-use Rattle.mesh_model.specs.Fields.ArrayPlaces.{HoldsViews, IsWritten, cell_extents, number_at}
+use Rattle.std.proofs.Common.{◌≡◌, ◌+◌, ◌*◌, ◌%◌, ◌∙◌, ap, arith, subst, sym, List, ℤ, true, false}
+use Rattle.mesh_model.specs.Fields.ArrayPlaces.{HoldsViews, cell_extents, number_at}
 use Rattle.mesh_model.specs.Fields.Octants.{cells_of, parted}
 use Rattle.mesh_model.specs.Fields.Views.{cell_view}
 use Rattle.mesh_model.specs.Geometry.Blocks.{child_block, parent_block}
@@ -11,7 +10,6 @@ use Rattle.block_tree.specs.Numbered.{IsNumberOf, block_at}
 use Rattle.block_tree.proofs.Facts.{known}
 use Rattle.block_tree.proofs.Leaves.{split_leaf}
 use Rattle.mesh_model.proofs.TreeLemmas.Tests.{refuted}
-use Rattle.rank_world.specs.Holding.{cell_array}
 use Rattle.guard_fill.specs.Strips.{block_of}
 use Rattle.guard_fill.proofs.Neighbours.{own_child}
 use Rattle.guard_fill.proofs.Patches.{parts_at, patched}

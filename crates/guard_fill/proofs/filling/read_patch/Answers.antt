@@ -1,4 +1,4 @@
-use Rattle.std.proofs.Common.{◌≡◌, ◌∙◌, ap, arith, subst, sym, refl, List, ℕ, ℤ, inl, inr}
+use Rattle.std.proofs.Common.{arith, subst, sym, refl, List, ℤ, inl, inr}
 use Rattle.mesh_model.specs.Fields.ArrayPlaces.{HoldsViews, cell_extents, number_at}
 use Rattle.mesh_model.specs.Fields.Octants.{cells_of}
 use Rattle.mesh_model.specs.Tree.Kinds.{Grid}

@@ -1,6 +1,5 @@
 use Rattle.std.proofs.Common.{◌*◌, ◌^◌, ◌%◌, ◌≤◌, Bool, arith, subst, ap, ◌∙◌, ◌≡◌}
 use Rattle.mesh_model.specs.Geometry.Coordinates.{is_periodic, roots}
-use Rattle.mesh_model.specs.Geometry.Touch.{block_on}
 use Rattle.mesh_model.proofs.GeometryLemmas.ShapeLimits.{roots_few}
 use Rattle.guard_fill.specs.Strips.{IsStrip}
 use Rattle.guard_fill.proofs.AxisStrips.{few_blocks}

@@ -1,9 +1,8 @@
-use Rattle.std.proofs.Common.{◌≡◌, ◌+◌, ◌<◌, ◌⊎◌, ◌∙◌, ap, arith, List, ℕ, ℤ, length, subst, sym, false}
+use Rattle.std.proofs.Common.{◌≡◌, ◌<◌, ◌⊎◌, ◌∙◌, ap, arith, List, ℤ, subst, sym}
 use Rattle.mesh_model.specs.declared.fields.values.Var.TheVariants.{Cell}
 use Rattle.mesh_model.specs.Geometry.Blocks.{child_block}
 use Rattle.mesh_model.specs.Tree.Kinds.{Grid}
 use Rattle.mesh_model.specs.Tree.ValidGrid.{Valid}
-use Rattle.mesh_model.specs.Fields.Arrays.{Counts}
 use Rattle.mesh_model.specs.Fields.ArrayPlaces.{HoldsViews, cell_extents, number_at}
 use Rattle.mesh_model.specs.Fields.Octants.{SumsAreSmall, cells_of}
 use Rattle.mesh_model.specs.Fields.Ranks.{Told}
