@@ -1,1 +1,2 @@
+pub mod Meshes
 pub mod Slotted
