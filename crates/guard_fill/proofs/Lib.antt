@@ -5,3 +5,4 @@ pub mod Neighbours
 pub mod PatchRows
 pub mod Patches
 pub mod Restricted
+pub mod TrialWorlds

@@ -1,3 +1,4 @@
 pub mod Filling
 pub mod Restricting
 pub mod Strips
+pub mod Trials

@@ -8,3 +8,6 @@ mod strips;
 
 pub use filling::fill;
 pub use restricting::restrict_all;
+
+#[cfg(test)]
+mod tests;
