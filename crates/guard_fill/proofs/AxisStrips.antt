@@ -44,17 +44,17 @@ module _ (blocks n b : ℕ) (inside : b < blocks) where
       ap (λ p. p % (blocks * n)) turned ∙ add-mul-mod_self_left m (blocks * n) 1 ∙ mod-eq_of_lt h
 
   -- the cells of another block of the axis
-  inside_block : (c u : ℕ) → c < blocks → u < n → n * c + u < blocks * n
+  pub inside_block : (c u : ℕ) → c < blocks → u < n → n * c + u < blocks * n
   inside_block c u hc hu =
       let next : n * suc c ≤ n * blocks = mul-le-mul_left n hc in
       let sum : n * suc c ≡ n * c + n = grind arith in
       let turned : n * blocks ≡ blocks * n = grind arith in
       omega arith
 
-next_row : (n b : ℕ) → n * suc b ≡ n * b + n
+pub next_row : (n b : ℕ) → n * suc b ≡ n * b + n
 next_row n b = grind arith
 
-last_row : (n blocks : ℕ) → 0 < blocks → blocks * n ≡ n * (blocks - 1) + n
+pub last_row : (n blocks : ℕ) → 0 < blocks → blocks * n ≡ n * (blocks - 1) + n
 last_row n (suc b) h = let one : suc b - 1 ≡ b = omega arith in rw one (turned n b)
   where
     turned : (n b : ℕ) → suc b * n ≡ n * b + n
@@ -64,7 +64,7 @@ last_row n zero h = absurd (omega arith)
 -- ---- before a block
 
 module _ (n g blocks : ℕ) (size : IsSize n g) (t : ℕ) (within : t < g) where
-  low_own : (periodic : Bool) (b : ℕ) → suc b < blocks → brought_in periodic (blocks * n) (blocks * n - 1) (guard_index n g (suc b) (0 + t)) ≡ n * b + (n - g + 1 * t)
+  pub low_own : (periodic : Bool) (b : ℕ) → suc b < blocks → brought_in periodic (blocks * n) (blocks * n - 1) (guard_index n g (suc b) (0 + t)) ≡ n * b + (n - g + 1 * t)
   low_own periodic b h =
       let few = guards_least size in
       let least = cells_least size in
@@ -75,14 +75,14 @@ module _ (n g blocks : ℕ) (size : IsSize n g) (t : ℕ) (within : t < g) where
   first_index : guard_index n g 0 (0 + t) ≡ negsuc (g - 1 - t)
   first_index = let none : n * 0 ≡ 0 = omega arith in omega (arith, ints)
 
-  low_turned : 0 < blocks → brought_in true (blocks * n) (blocks * n - 1) (guard_index n g 0 (0 + t)) ≡ n * (blocks - 1) + (n - g + 1 * t)
+  pub low_turned : 0 < blocks → brought_in true (blocks * n) (blocks * n - 1) (guard_index n g 0 (0 + t)) ≡ n * (blocks - 1) + (n - g + 1 * t)
   low_turned some =
       let few = guards_least size in
       let least = cells_least size in
       let last = last_row n blocks some in
       ap (brought_in true (blocks * n) (blocks * n - 1)) first_index ∙ low_wrapped blocks n 0 some (g - 1 - t) (omega arith) ∙ omega arith
 
-  low_clamped : brought_in false (blocks * n) (blocks * n - 1) (guard_index n g 0 (0 + t)) ≡ n * 0 + (0 + 0 * t)
+  pub low_clamped : brought_in false (blocks * n) (blocks * n - 1) (guard_index n g 0 (0 + t)) ≡ n * 0 + (0 + 0 * t)
   low_clamped = ap (brought_in false (blocks * n) (blocks * n - 1)) first_index ∙ (let none : n * 0 ≡ 0 = omega arith in omega arith)
 
 -- ---- behind a block
@@ -91,7 +91,7 @@ module _ (n g blocks b : ℕ) (size : IsSize n g) (inside : b < blocks) (t : ℕ
   high_index : guard_index n g b (g + n + t) ≡ pos (n * suc b + t)
   high_index = let next = next_row n b in omega (arith, ints)
 
-  high_own : (periodic : Bool) → suc b < blocks → brought_in periodic (blocks * n) (blocks * n - 1) (guard_index n g b (g + n + t)) ≡ n * suc b + (0 + 1 * t)
+  pub high_own : (periodic : Bool) → suc b < blocks → brought_in periodic (blocks * n) (blocks * n - 1) (guard_index n g b (g + n + t)) ≡ n * suc b + (0 + 1 * t)
   high_own periodic h =
       let few = guards_least size in
       let least = cells_least size in
@@ -103,7 +103,7 @@ module _ (n g blocks b : ℕ) (size : IsSize n g) (inside : b < blocks) (t : ℕ
       turned : (x y : ℕ) → x * y ≡ y * x
       turned x y = grind arith
 
-  high_turned : suc b ≡ blocks → brought_in true (blocks * n) (blocks * n - 1) (guard_index n g b (g + n + t)) ≡ n * 0 + (0 + 1 * t)
+  pub high_turned : suc b ≡ blocks → brought_in true (blocks * n) (blocks * n - 1) (guard_index n g b (g + n + t)) ≡ n * 0 + (0 + 1 * t)
   high_turned last =
       let few = guards_least size in
       let least = cells_least size in
@@ -112,7 +112,7 @@ module _ (n g blocks b : ℕ) (size : IsSize n g) (inside : b < blocks) (t : ℕ
       let is : n * suc b + t ≡ blocks * n + t = omega arith in
       ap (brought_in true (blocks * n) (blocks * n - 1)) (high_index ∙ ap pos is) ∙ high_wrapped blocks n b inside t (omega arith) ∙ (let none : n * 0 ≡ 0 = omega arith in omega arith)
 
-  high_clamped : suc b ≡ blocks → brought_in false (blocks * n) (blocks * n - 1) (guard_index n g b (g + n + t)) ≡ n * b + (n - 1 + 0 * t)
+  pub high_clamped : suc b ≡ blocks → brought_in false (blocks * n) (blocks * n - 1) (guard_index n g b (g + n + t)) ≡ n * b + (n - 1 + 0 * t)
   high_clamped last =
       let few = guards_least size in
       let least = cells_least size in

@@ -1,6 +1,7 @@
 pub mod AxisStrips
 pub mod Filled
 pub mod Gathering
+pub mod NearViews
 pub mod Neighbours
 pub mod PatchRows
 pub mod Patches

@@ -30,7 +30,7 @@ meets periodic blocks b c beside = elim beside.which [
   | inr (turn, inr last) ↦ inr (turn, inr (omega arith))
 ]
 
-whole_turn : (r l : ℕ) → l ≤ 10 → r * 2 ^ l * 2 ^ (10 - l) ≡ r * 2 ^ 10
+pub whole_turn : (r l : ℕ) → l ≤ 10 → r * 2 ^ l * 2 ^ (10 - l) ≡ r * 2 ^ 10
 whole_turn r l h =
     let sum : l + (10 - l) ≡ 10 = omega arith in
     mul_assoc r (2 ^ l) (2 ^ (10 - l)) ∙ ap (λ n. r * n) (sym (pow-add 2 l (10 - l)) ∙ ap (λ d. 2 ^ d) sum)

@@ -94,7 +94,7 @@ direction_few n g i j k = let a = side_few n g i in let b = side_few n g j in le
 -- ---- what stands for a place
 
 -- on an axis
-turn_over : (r m l : ℕ) → r * 2 ^ l * m ≡ r * m * 2 ^ l
+pub turn_over : (r m l : ℕ) → r * 2 ^ l * m ≡ r * m * 2 ^ l
 turn_over r m l = grind arith
 
 pub stands : (s : Shape) (a : Axis) (n e l b d t : ℕ) (st : Strip) → s.n ≡ n → IsStrip n e (is_periodic s a) (roots s a * 2 ^ l) b d st → t < st.many →

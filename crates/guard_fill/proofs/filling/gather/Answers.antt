@@ -19,7 +19,7 @@ fill_direction-requires g c =
     let block : c.at-block.result ≡ block_at grid c.args.node = c.at-block.ensures.value ∙ ap (λ (h : Grid). block_at h c.args.node) c.tree.ensures in
     let leaf : is_leaf_block grid c.at-block.result ≡ true = ap (is_leaf_block grid) block ∙ c.requires.leaf.leaf in
     let long : length c.loop-direction.room ≡ size_of (cell_extents g.row.N g.row.G) = c.loop-direction.auto.room ∙ c.copy_from_slice.ensures.len ∙ c.requires.room in
-    (omega arith, (c.requires.size, (c.requires.fit, (c.requires.variable, (leaf, (c.loop-direction-test.true, long))))))
+    (omega arith, (c.requires.size, (c.requires.fit, (c.requires.variable, (leaf, (omega arith, long))))))
 
 pub loop-direction-preserved : goal.loop-direction-preserved
 loop-direction-preserved g c =

@@ -27,6 +27,7 @@ restrict_child-requires g c =
     let mid = c.loop-octant.world in
     let v = c.args.v in
     let q = c.loop-octant.octant in
+    let hq : q < 8 = (let test = c.loop-octant-test.true in omega arith) in
     let child = c.in-Some.child in
     let only = c.loop-octant.invariant.only in
     let grid : grid_of c.tree.result.now ≡ now.told.grid = c.tree.ensures ∙ ap (λ (t : Told). t.grid) only.told in
@@ -44,10 +45,10 @@ restrict_child-requires g c =
             (
               subst (λ (t : Told). IsNode t.grid child) (sym only.told) found.there,
               (
-                c.loop-octant-test.true,
+                hq,
                 (
                   c.loop-octant.auto.room ∙ c.requires.room,
-                  subst (λ (xs : List ℤ). SumsAreSmall n e (number_at (cell_extents n e) xs)) (sym same) (c.requires.small q child c.loop-octant-test.true found),
+                  subst (λ (xs : List ℤ). SumsAreSmall n e (number_at (cell_extents n e) xs)) (sym same) (c.requires.small q child hq found),
                 ),
               ),
             ),
@@ -62,6 +63,7 @@ loop-octant-preserved g c =
     let mid = c.loop-octant.world in
     let v = c.args.v in
     let q = c.loop-octant.octant in
+    let hq : q < 8 = (let test = c.loop-octant-test.true in omega arith) in
     let child = c.in-Some.child in
     let only = c.loop-octant.invariant.only in
     let grid : grid_of c.tree.result.now ≡ now.told.grid = c.tree.ensures ∙ ap (λ (t : Told). t.grid) only.told in
@@ -76,9 +78,9 @@ loop-octant-preserved g c =
       fit = c.restrict_child.ensures.fit;
       done = λ content held.
           octant_step now.told.grid g.row.N g.row.G content b q (cell_array mid v child) (cell_array mid v c.args.node) (cell_array c.restrict_child.new.world v c.args.node)
-          valid c.requires.fit.sizes c.loop-octant-test.true c.restrict_child.ensures.sums
+          valid c.requires.fit.sizes hq c.restrict_child.ensures.sums
           (subst (λ (xs : List ℤ). HoldsViews now.told.grid content (child_block b q) (cells_of now.told.grid xs)) (sym same)
-          (subst (λ d. HoldsViews now.told.grid content d (cells_of now.told.grid (cell_array now v child))) found.block (held q child c.loop-octant-test.true found)))
+          (subst (λ d. HoldsViews now.told.grid content d (cells_of now.told.grid (cell_array now v child))) found.block (held q child hq found)))
           (c.loop-octant.invariant.done content held);
     }
 
