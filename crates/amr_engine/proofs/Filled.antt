@@ -17,7 +17,7 @@ use Rattle.mesh_model.proofs.FieldLemmas.CellSums.{view_leaf}
 use Rattle.mesh_model.proofs.FieldLemmas.ValidGrid.{leaf_whole}
 use Rattle.block_tree.specs.Numbered.{block_at}
 use Rattle.rank_world.specs.Holding.{IsLeafNode, LeavesHold, NodeHolds, cell_array}
-use Rattle.rank_world.specs.Writing.{OnlyCells}
+use Rattle.rank_world.specs.Holding.{OnlyCells}
 use Rattle.amr_engine.specs.Filling.{IsFilled, filled_cell}
 use Rattle.amr_engine.specs.Regions.{covers, filled_content}
 use Rattle.amr_engine.specs.declared.region.Fill.{Fill}

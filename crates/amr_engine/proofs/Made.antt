@@ -38,7 +38,7 @@ use Rattle.regrid_move.specs.declared.regridding.RegridStop.TheVariants as stops
 use Rattle.mesh_model.specs.Tree.ValidGrid.{FewNodes, Valid}
 use Rattle.mesh_model.proofs.RunLemmas.RunValid.{keeps_validity}
 use Rattle.rank_world.specs.Holding.{IsLeafNode, IsOfMesh, LeavesHold}
-use Rattle.rank_world.specs.Writing.{OnlyCells}
+use Rattle.rank_world.specs.Holding.{OnlyCells}
 use Rattle.regrid_move.specs.Regrids.{AreOfMesh, IsPlanOf, IsRegridStop, IsRegridded}
 use Rattle.amr_engine.specs.Stopping.{MayStop, cause_of_regrid, stopped_by}
 use Rattle.amr_engine.proofs.Marks.{too_many}

@@ -10,7 +10,8 @@ ghost use Rattle.mesh_model.specs.Geometry.Places.{in_block};
 ghost use Rattle.mesh_model.specs.declared.fields.values.Var.TheVariants.{Cell};
 ghost use Rattle.block_tree.specs.Numbered.{IsNode, block_at};
 ghost use Rattle.rank_world.specs.Holding.{cell_array};
-ghost use Rattle.rank_world.specs.Writing.{IsLeafArray, OnlyCells};
+ghost use Rattle.rank_world.specs.Holding.{OnlyCells};
+ghost use Rattle.rank_world.specs.Writing.{IsLeafArray};
 ghost use Rattle.std.specs.Prelude.{◌≡◌, ℕ, ◌+◌, ◌*◌, ◌/◌, ◌%◌, ◌<◌, ◌≤◌, ◌^◌, length, if◌then◌else◌};
 
 use crate::cells::cell_in;

@@ -2,6 +2,7 @@
 use Rattle.std.specs.Prelude.{◌≡◌, ℕ, ◌+◌, ◌<◌, ◌^◌, ◌↔◌, true, List, length, ℤ, None}
 use Rattle.amr_num.specs.declared.CellAt.{CellAt}
 use Rattle.amr_num.specs.Numbers.{Within, number_range}
+use Rattle.mesh_model.specs.declared.fields.values.Var.{Var}
 use Rattle.mesh_model.specs.declared.fields.values.Var.TheVariants.{Cell}
 use Rattle.mesh_model.specs.Fields.Arrays.{array_in}
 use Rattle.mesh_model.specs.Fields.Octants.{cells_of}
@@ -33,6 +34,11 @@ LeavesHold w v content = (node : ℕ) → IsLeafNode w.told.grid node → NodeHo
 
 abbrev pub NodesHold : WorldState → ℕ → (CellAt → ℤ) → Type 0
 NodesHold w v content = (node : ℕ) → IsNode w.told.grid node → NodeHolds w v content node
+
+-- the numbers of one cell variable may be others
+pub record OnlyCells (old new : WorldState) (v : ℕ) : Type 0 where
+  pub told : new.told ≡ old.told
+  pub others : (u : Var) (node : ℕ) → (u ≡ Cell v → ⊥) → array_in (rank_at new 0).own.values u node ≡ array_in (rank_at old 0).own.values u node
 
 -- the numbers of a leaf's cells are at most 2^40 in absolute value
 pub record LeafInRange (w : WorldState) (v node : ℕ) : Type 0 where

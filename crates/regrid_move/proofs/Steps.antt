@@ -6,9 +6,8 @@ use Rattle.mesh_model.specs.Fields.Octants.{cells_of}
 use Rattle.mesh_model.specs.Fields.ArrayPlaces.{HoldsViews}
 use Rattle.mesh_model.specs.Fields.Ranks.{OnlyOf, Told, WorldState}
 use Rattle.block_tree.specs.Numbered.{block_at}
-use Rattle.rank_world.specs.Holding.{IsLeafNode, cell_array}
+use Rattle.rank_world.specs.Holding.{IsLeafNode, OnlyCells, cell_array}
 use Rattle.regrid_move.specs.Near.{NodeMoved, LeavesMoved}
-use Rattle.rank_world.specs.Writing.{OnlyCells}
 
 pub none_is : {A : Type 0} (r : Option A) → is_some r ≡ false → r ≡ None
 none_is None h = refl

@@ -6,7 +6,7 @@ use Rattle.mesh_model.specs.Tree.Kinds.{Grid, is_leaf_block}
 use Rattle.mesh_model.specs.Tree.Order.{nodes}
 use Rattle.mesh_model.specs.Tree.ValidGrid.{Valid}
 use Rattle.rank_world.specs.Holding.{IsLeafNode}
-use Rattle.rank_world.specs.Writing.{OnlyCells}
+use Rattle.rank_world.specs.Holding.{OnlyCells}
 use Rattle.amr_engine.proofs.Filled.{AreFilledBelow, cells_again, leaf_filled, node_passed}
 use Rattle.amr_engine.proofs.filling.fill_leaves.Goals as goal
 use Rattle.amr_engine.proofs.filling.fill_leaves.Goals.{then-is_leaf, else-is_leaf}

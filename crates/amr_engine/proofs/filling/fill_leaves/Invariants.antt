@@ -1,5 +1,5 @@
 use Rattle.mesh_model.specs.Fields.Ranks.{IsFit}
-use Rattle.rank_world.specs.Writing.{OnlyCells}
+use Rattle.rank_world.specs.Holding.{OnlyCells}
 use Rattle.amr_engine.proofs.Filled.{AreFilledBelow}
 use Rattle.amr_engine.proofs.filling.fill_leaves.Given as goal
 
