@@ -1,0 +1,2 @@
+pub mod FacePlaces
+pub mod Finer

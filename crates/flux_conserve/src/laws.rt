@@ -1,0 +1,9 @@
+//! A law of fluxes: the contract of a function that does nothing.
+
+ghost use Rattle.flux_conserve.specs.Laws.{FluxesAreJumped};
+
+/// The flux through a face of a leaf is what the leaf's own step gives of it, or at a jump of level the sum of what the
+/// finer leaves' steps give of its four finer faces.
+pub fn fluxes_are_jumped()
+    ensures { FluxesAreJumped }
+{}
