@@ -1,2 +1,4 @@
 pub mod FacePlaces
 pub mod Finer
+pub mod Axes
+pub mod Sides

@@ -95,10 +95,13 @@ child_beside a high q d = child_block d (octant_on a (side_half (not high)) q)
 abbrev pub quarter_at : ℕ → ℕ → ℕ → ℕ
 quarter_at n s t = s / (n / 2) + 2 * (t / (n / 2))
 
--- the sum of the four finer faces at the coarse face (s, t) of a side, which are those of the child in its quarter
-unfoldable pub four_finer : ℕ → BlockFaces → Axis → Bool → BlockAt → ℕ → ℕ → ℤ
-four_finer n faces a high d s t =
-    sum_below 4 (λ q. faces a (child_beside a high (quarter_at n s t) d) (side_position n (not high)) (2 * (s % (n / 2)) + q % 2) (2 * (t % (n / 2)) + q / 2 % 2))
+-- the sum of the four finer faces of the child in the quarter q of a side, at the place (s, t) in the quarter
+unfoldable pub quarter_sum : ℕ → BlockFaces → Axis → Bool → BlockAt → ℕ → ℕ → ℕ → ℤ
+quarter_sum n faces a high d q s t = sum_below 4 (λ r. faces a (child_beside a high q d) (side_position n (not high)) (2 * s + r % 2) (2 * t + r / 2 % 2))
+
+-- the sum of the four finer faces at the coarse face (s, t) of a side
+abbrev pub four_finer : ℕ → BlockFaces → Axis → Bool → BlockAt → ℕ → ℕ → ℤ
+four_finer n faces a high d s t = quarter_sum n faces a high d (quarter_at n s t) (s % (n / 2)) (t % (n / 2))
 
 -- the face (s, t) of a side takes that sum where finer leaves stand there
 abbrev pub or_four : ℕ → BlockFaces → Axis → Bool → BlockAt → ℕ → ℕ → Option BlockAt → ℤ

@@ -9,7 +9,7 @@ use Rattle.mesh_model.specs.declared.fields.values.Var.{Var}
 use Rattle.mesh_model.specs.declared.fields.values.Var.TheVariants.{FaceWork}
 use Rattle.mesh_model.specs.Fields.Arrays.{array_in}
 use Rattle.mesh_model.specs.Fields.ArrayPlaces.{HoldsFaceField, face_extents, number_at}
-use Rattle.mesh_model.specs.Fields.Ranks.{IsFit, WorldState, rank_at}
+use Rattle.mesh_model.specs.Fields.Ranks.{IsFit, OnlyOf, WorldState, rank_at}
 use Rattle.mesh_model.specs.Geometry.Places.{longer_on}
 use Rattle.mesh_model.specs.Tree.Kinds.{Grid, is_leaf_block}
 use Rattle.block_tree.specs.Numbered.{IsNode, IsNumberOf, block_at}
@@ -92,3 +92,12 @@ pub record NearHas (w : WorldState) (faces : BlockFaces) (a : Axis) (high : Bool
 pub record NearWithin (w : WorldState) (a : Axis) (high : Bool) (node : ℕ) : Type 0 where
   pub at : (q s t child : ℕ) → q < 4 → IsNumberOf w.told.grid (child_beside a high q (block_at w.told.grid node)) child → s < w.told.grid.shape.n → t < w.told.grid.shape.n →
       Within (2 ^ 56) (work_at w a child (side_position w.told.grid.shape.n (not high)) s t)
+
+-- a side of a leaf has taken its sums, and its other faces stay
+pub record SideTaken (n g : ℕ) (old new : WorldState) (node : ℕ) (a : Axis) (high : Bool) (beside : ℕ) : Type 0 where
+  pub only : OnlyOf old new 0 (FaceWork a) node
+  pub fit : IsFit n g new
+  pub others : (p s t : ℕ) → IsFacePlace old.told.grid.shape.n p s t → (p ≡ side_position old.told.grid.shape.n high → ⊥) → work_at new a node p s t ≡ work_at old a node p s t
+  pub within : (s t : ℕ) → s < old.told.grid.shape.n → t < old.told.grid.shape.n → Within (2 ^ 58) (work_at new a node (side_position old.told.grid.shape.n high) s t)
+  pub sums : (faces : BlockFaces) → NearHas old faces a high beside → (s t : ℕ) → s < old.told.grid.shape.n → t < old.told.grid.shape.n →
+      work_at new a node (side_position old.told.grid.shape.n high) s t ≡ four_finer old.told.grid.shape.n faces a high (block_at old.told.grid beside) s t

@@ -2,12 +2,12 @@
 #![tactic(auto)]
 
 mod beside;
-//mod correcting;
+mod correcting;
 mod faces;
 pub mod laws;
 mod sums;
 
-//pub use correcting::correct;
+pub use correcting::correct;
 
 //#[cfg(test)]
 //mod tests;
