@@ -1,5 +1,5 @@
-use Rattle.flux_conserve.proofs.Sides.{many}
+use Rattle.flux_conserve.proofs.Fields.{fluxes_jumped}
 use Rattle.flux_conserve.proofs.laws.fluxes_are_jumped.Goals as goal
 
 pub returns : goal.returns
-returns c = ?
+returns c = λ g content n b a i j k valid leaf hi hj hk. fluxes_jumped g content n b a valid leaf i j k hi hj hk
