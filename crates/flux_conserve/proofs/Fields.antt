@@ -159,7 +159,7 @@ module _ (g : Grid) (valid : Valid g) (a : Axis) (b : BlockAt) (leaf : is_leaf_b
 
 -- ---- the finer faces at a jump
 
-side_within : (n : ℕ) (high : Bool) → side_position n high ≤ n
+pub side_within : (n : ℕ) (high : Bool) → side_position n high ≤ n
 side_within n false = omega arith
 side_within n true = omega arith
 

@@ -3,3 +3,4 @@ pub mod Finer
 pub mod Axes
 pub mod Sides
 pub mod Fields
+pub mod Worlds
