@@ -4,3 +4,4 @@ pub mod Axes
 pub mod Sides
 pub mod Fields
 pub mod Worlds
+pub mod Taking

@@ -86,8 +86,9 @@ fn gather<const N: usize, const G: usize>(
         → at sums.new (sum_place N s t) ≡ four_finer N faces axis high (block_at world.now.told.grid beside) s t }
     ensures within { (s t : ℕ) → s < N → t < N → Within (2 ^ 58) (at sums.new (sum_place N s t)) }
 {
+    let tree = world.tree();
     for quarter in 0..4 {
-        match world.tree().child(beside, octant_in(axis, !high, quarter)) {
+        match tree.child(beside, octant_in(axis, !high, quarter)) {
             Some(child) => sum_child(world, child, axis, high, quarter as usize, sums),
             None => unreachable!(),
         }
