@@ -281,3 +281,28 @@ then_summed n e u v w uv vw =
       calm = λ faces calm. vw.calm faces (uv.calm faces calm);
       keeps = λ faces k d h is calm has. vw.keeps faces k d h (forth k is) (uv.calm faces calm) (uv.keeps faces k d h is calm has);
     }
+
+-- ---- all sides have taken their sums
+
+module _ (n e : ℕ) (old new : WorldState) (valid : Valid old.told.grid) (steps : AreSummed n e old new)
+    (sides : (faces : BlockFaces) (node : ℕ) (a : Axis) (high : Bool) → IsLeafNode old.told.grid node → CalmHas old faces → SideHas new faces node a high) where
+  same_told : record { told = old.told; ranks = new.ranks } ≡ new
+  same_told = λ i. record { told = sym steps.only.told i; ranks = new.ranks }
+
+  numbers_there : (faces : BlockFaces) → WorkHas old faces → WorkHas (record { told = old.told; ranks = new.ranks }) (corrected old.told.grid faces)
+  numbers_there faces has =
+      let calm = calm_of old faces has in
+      all_corrected (record { told = old.told; ranks = new.ranks }) faces valid (subst (λ w. CalmHas w faces) (sym same_told) (steps.calm faces calm))
+      (λ node a high leaf. subst (λ w. SideHas w faces node a high) (sym same_told) (sides faces node a high leaf calm))
+
+  pub numbers_after : (faces : BlockFaces) → WorkHas old faces → WorkHas new (corrected old.told.grid faces)
+  numbers_after faces has = subst (λ w. WorkHas w (corrected old.told.grid faces)) same_told (numbers_there faces has)
+
+  pub field_after : (field : FaceAt → ℤ) → WorkHolds old field → WorkHolds new (jumped old.told.grid field)
+  field_after field holds =
+      subst (λ w. WorkHolds w (jumped old.told.grid field)) same_told
+      (field_holds (record { told = old.told; ranks = new.ranks }) field valid (numbers_there (named old.told.grid.shape field) (holds_has old field holds)))
+
+-- a split node beside a node's block, in the words of a grid that is the same
+pub finer_told : (h g : Grid) (a : Axis) (high : Bool) (node beside : ℕ) (b : BlockAt) → h ≡ g → b ≡ block_at h node → IsFinerNode h a high b beside → IsFinerNode g a high (block_at g node) beside
+finer_told h g a high node beside b same is finer = subst (λ u. IsFinerNode u a high (block_at u node) beside) same (subst (λ c. IsFinerNode h a high c beside) is finer)
