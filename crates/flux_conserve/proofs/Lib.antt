@@ -5,3 +5,4 @@ pub mod Sides
 pub mod Fields
 pub mod Worlds
 pub mod Taking
+pub mod Puts

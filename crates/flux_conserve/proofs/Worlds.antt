@@ -131,7 +131,7 @@ same_axis : (a d : Axis) → axis_index a ≡ axis_index d → a ≡ d
 same_axis a d is = let same : FaceWork a ≡ FaceWork d = number_once (FaceWork a) (FaceWork d) (ap (λ m. 1 + m) is) in cc
 
 -- an array is the one that was written, or another
-which_array : (node k : ℕ) (a d : Axis) → ((k ≡ node) × (d ≡ a)) ⊎ (FaceWork d ≡ FaceWork a → k ≡ node → ⊥)
+pub which_array : (node k : ℕ) (a d : Axis) → ((k ≡ node) × (d ≡ a)) ⊎ (FaceWork d ≡ FaceWork a → k ≡ node → ⊥)
 which_array node k a d = elim (cases_order k node) [
   | inr apart ↦ inr (λ e is. absurd (elim apart [ inl h ↦ omega arith | inr h ↦ omega arith ]))
   | inl here ↦ elim (cases_order (axis_index d) (axis_index a)) [

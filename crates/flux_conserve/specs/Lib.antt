@@ -1,4 +1,5 @@
 pub mod Jumps
 pub mod Work
 pub mod Sums
+pub mod Puts
 pub mod Laws

@@ -9,5 +9,5 @@ mod sums;
 
 pub use correcting::correct;
 
-//#[cfg(test)]
-//mod tests;
+#[cfg(test)]
+mod tests;
