@@ -1,5 +1,5 @@
 -- Blocks, their cells and their faces side by side on one axis.
-use Rattle.std.proofs.Common.{◌≡◌, ℕ, zero, suc, ◌+◌, ◌-◌, ◌*◌, ◌^◌, ◌<◌, ◌≤◌, ◌⊎◌, Bool, true, false, not, Option, Some, None, refl, sym, ap, ap₂, subst, ◌∙◌, arith, inl, inr}
+use Rattle.std.proofs.Common.{◌≡◌, ℕ, zero, suc, ◌+◌, ◌-◌, ◌*◌, ◌^◌, ◌<◌, ◌≤◌, Bool, true, false, not, Some, None, refl, sym, ap, ap₂, subst, ◌∙◌, arith, inl, inr}
 use Rattle.std.specs.Prelude.{option_map}
 use Rattle.std.proofs.Math.Nat.{mul-le-mul_right, mul_assoc, mul-pos}
 use Rattle.std.proofs.Math.Pow.{pow-add}
@@ -8,7 +8,7 @@ use Rattle.mesh_model.specs.Geometry.Coordinates.{above, below, wrapped}
 use Rattle.mesh_model.specs.Geometry.Touch.{high_end, low_end}
 use Rattle.mesh_model.proofs.FieldLemmas.Beside.{Follows, above_in, above_out, before_after, below_follows}
 use Rattle.mesh_model.proofs.FieldLemmas.Sums.{wrapped_end, wrapped_inside}
-use Rattle.mesh_model.proofs.TreeLemmas.Touching.{Meet, meet_swap, meet_times}
+use Rattle.mesh_model.proofs.TreeLemmas.Touching.{Meet, meet_times}
 use Rattle.flux_conserve.specs.Jumps.{beside_on, side_half, side_position}
 
 -- ---- positions

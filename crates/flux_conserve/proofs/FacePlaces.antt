@@ -1,11 +1,11 @@
 -- Places of faces in arrays: no two faces stand at one.
-use Rattle.std.proofs.Common.{◌≡◌, ℕ, ◌+◌, ◌*◌, ◌/◌, ◌%◌, ◌^◌, ◌<◌, ◌≤◌, ◌≢◌, List, length, get_or, set, ℤ, pos, ◌+ℤ◌, refl, sym, ap, ap₂, subst, ◌∙◌, arith, inl, inr}
+use Rattle.std.proofs.Common.{◌≡◌, ℕ, ◌+◌, ◌*◌, ◌^◌, ◌<◌, ◌≢◌, List, length, set, ℤ, pos, ◌+ℤ◌, ap, ap₂, ◌∙◌, arith}
 use Rattle.std.proofs.lemmas.Int.{ints}
 use Rattle.std.proofs.lemmas.List.{get_or-set_other, get_or-set_same, length-set}
 use Rattle.amr_num.specs.Numbers.{Within}
 use Rattle.amr_num.specs.declared.Axis.{Axis}
 use Rattle.amr_num.specs.declared.Axis.TheVariants.{X, Y, Z}
-use Rattle.mesh_model.specs.Fields.ArrayPlaces.{Extents, face_extents, place_in, side, size_of}
+use Rattle.mesh_model.specs.Fields.ArrayPlaces.{face_extents, place_in}
 use Rattle.mesh_model.proofs.FieldLemmas.BlockPlaces.{same_x, same_y, same_z}
 use Rattle.flux_conserve.specs.Jumps.{IsFacePlace, spot}
 use Rattle.flux_conserve.specs.Sums.{IsFaceSet, four_at}

@@ -1,5 +1,5 @@
 -- The numbers of faces by places, and fields on faces by their names.
-use Rattle.std.proofs.Common.{◌≡◌, ℕ, zero, suc, ◌+◌, ◌-◌, ◌*◌, ◌/◌, ◌%◌, ◌<◌, ◌≤◌, ◌≢◌, ◌⊎◌, Bool, true, false, not, Option, Some, None, ℤ, refl, sym, ap, ap₂, subst, ◌∙◌, arith, inl, inr, eq-eqb, ne_eqb}
+use Rattle.std.proofs.Common.{◌≡◌, ℕ, suc, ◌+◌, ◌-◌, ◌*◌, ◌/◌, ◌%◌, ◌<◌, ◌≤◌, ◌≢◌, ◌⊎◌, Bool, true, false, not, Option, Some, None, ℤ, refl, sym, ap, subst, ◌∙◌, arith, inl, inr, eq-eqb, ne_eqb}
 use Rattle.std.specs.Prelude.{if◌then◌else◌}
 use Rattle.std.proofs.lemmas.Bool.{cases_order}
 use Rattle.amr_num.specs.Numbers.{sum_below}
@@ -153,7 +153,7 @@ module _ (g : Grid) (valid : Valid g) (a : Axis) (b : BlockAt) (leaf : is_leaf_b
       | inr jump ↦
           corrected_jump g a b some (named g.shape field) s t p jump
           ∙ sum_below_same 4 (λ r. field (face_name g.shape a (child_beside a jump.high (quarter_at g.shape.n s t) jump.finer) (side_position g.shape.n (not jump.high)) (2 * (s % (g.shape.n / 2)) + r % 2) (2 * (t % (g.shape.n / 2)) + r / 2 % 2)))
-            (λ r. field (sub_face face r)) (λ r h. ap field (finer_is jump r))
+          (λ r. field (sub_face face r)) (λ r h. ap field (finer_is jump r))
           ∙ ap (λ (u : Bool). if u then sum_below 4 (λ r. field (sub_face face r)) else field face) (sym (jump_is jump))
     ]
 
@@ -189,7 +189,7 @@ module _ (g : Grid) (valid : Valid g) (content : CellAt → ℤ) (n : Speeds) wh
       let one : 10 - f.level ≡ suc (9 - f.level) = omega arith in
       ap (λ d. face_down g (leaf_flux g content n) d f) one ∙ faces.down_split g (tree g valid) wide (leaf_flux g content n) (9 - f.level) f split
       ∙ sum_below_same 4 (λ r. face_down g (leaf_flux g content n) (9 - f.level) (sub_face f r)) (λ r. leaf_flux g content n (sub_face f r))
-        (λ r h. faces.down_whole g (tree g valid) wide (leaf_flux g content n) (9 - f.level) (sub_face f r) (calm r h))
+      (λ r h. faces.down_whole g (tree g valid) wide (leaf_flux g content n) (9 - f.level) (sub_face f r) (calm r h))
 
   module _ (a : Axis) (b : BlockAt) (leaf : is_leaf_block g b ≡ true) (p s t : ℕ) (place : IsFacePlace g.shape.n p s t) where
     sub_calm : (jump : IsJump g a b p) (r : ℕ) → is_split_face g (sub_face (face g valid a b leaf p s t place) r) ≡ false
@@ -197,7 +197,7 @@ module _ (g : Grid) (valid : Valid g) (content : CellAt → ℤ) (n : Speeds) wh
         let q = quarter_at g.shape.n s t in
         ap (is_split_face g) (sym (finer_is g valid a b leaf p s t place jump r))
         ∙ calm_is g valid a (child_beside a jump.high q jump.finer) (near_leaf g valid a jump.high b jump.finer leaf jump.there q) (side_position g.shape.n (not jump.high)) _ _
-          (finer_place g.shape.n s t r (not jump.high) valid.shape.cells) (near_calm g valid a jump.high b jump.finer leaf jump.there q)
+        (finer_place g.shape.n s t r (not jump.high) valid.shape.cells) (near_calm g valid a jump.high b jump.finer leaf jump.there q)
 
     -- the flux through a face of a leaf is what its own step gives, jumped
     pub flux_jumped : flux g content n (face_name g.shape a b p s t) ≡ jumped g (leaf_flux g content n) (face_name g.shape a b p s t)

@@ -1,18 +1,18 @@
 -- Worlds whose work faces are small numbers: new ones, and those in which a small number is put.
-use Rattle.std.proofs.Common.{◌≡◌, ℕ, ◌+◌, ◌*◌, ◌^◌, ◌<◌, ◌≤◌, List, length, ℤ, pos, refl, sym, ap, subst, ◌∙◌, arith, inl, inr}
+use Rattle.std.proofs.Common.{◌≡◌, ℕ, ◌+◌, ◌^◌, ◌≤◌, List, length, ℤ, pos, sym, ap, subst, ◌∙◌, arith, inl, inr}
 use Rattle.std.specs.Prelude.{replicate}
 use Rattle.std.proofs.lemmas.Bool.{cases_lt}
 use Rattle.std.proofs.lemmas.List.{get_or-replicate, get_or_past, length-replicate}
 use Rattle.amr_num.specs.Numbers.{Within, at}
 use Rattle.amr_num.specs.declared.Axis.{Axis}
 use Rattle.mesh_model.specs.declared.fields.values.Var.TheVariants.{FaceWork}
-use Rattle.mesh_model.specs.Fields.ArrayPlaces.{IsSize, face_extents, number_at, place_in}
+use Rattle.mesh_model.specs.Fields.ArrayPlaces.{IsSize, face_extents, place_in}
 use Rattle.mesh_model.specs.Fields.Arrays.{var_length}
 use Rattle.mesh_model.specs.Fields.Ranks.{AreZero, IsFit, WorldState, rank_at, world_with}
 use Rattle.mesh_model.proofs.FieldLemmas.Worlds.{has_array, only_of, written_in}
 use Rattle.block_tree.specs.Numbered.{IsNode}
 use Rattle.flux_conserve.specs.Puts.{IsPut}
-use Rattle.flux_conserve.specs.Work.{LeafWithin, WorkWithin, work_array}
+use Rattle.flux_conserve.specs.Work.{WorkWithin, work_array}
 use Rattle.flux_conserve.proofs.Worlds.{which_array}
 
 zero_at : (n k : ℕ) → at (replicate n (pos 0)) k ≡ pos 0

@@ -16,7 +16,7 @@ use Rattle.mesh_model.specs.Tree.Kinds.{Grid, holds, is_leaf_block, is_split, is
 use Rattle.mesh_model.specs.Tree.ValidGrid.{Valid}
 use Rattle.mesh_model.proofs.FieldLemmas.Beside.{three}
 use Rattle.mesh_model.proofs.FieldLemmas.BlockOctants.{block_of_cell}
-use Rattle.mesh_model.proofs.GeometryLemmas.Halves.{by_size, half_below}
+use Rattle.mesh_model.proofs.GeometryLemmas.Halves.{by_size}
 use Rattle.mesh_model.proofs.GeometryLemmas.OnAxes.{on_with, with_level, with_with}
 use Rattle.mesh_model.proofs.TreeLemmas.Levels.{calm_block, is_child, split_level}
 use Rattle.mesh_model.proofs.TreeLemmas.Tiling.{IsChild, child_of_split, child_of_whole, double}
@@ -312,7 +312,7 @@ module _ (g : Grid) (valid : Valid g) (a : Axis) (high : Bool) (b d : BlockAt) (
   back_again =
       ap (block_beside g.shape a (not high)) child_is
       ∙ beside_half g.shape a (not high) b (2 * there.at + side_half (not high)) q (Some (2 * block_on a b + side_half high))
-        (back (is_periodic g.shape a) high (roots g.shape a * 2 ^ b.level) (block_on a b) there.at (block_on_inside g.shape a b inside) side_by_side)
+      (back (is_periodic g.shape a) high (roots g.shape a * 2 ^ b.level) (block_on a b) there.at (block_on_inside g.shape a b inside) side_by_side)
       ∙ ap Some (own_half a b high q)
 
   -- which is not split
@@ -330,8 +330,8 @@ module _ (g : Grid) (valid : Valid g) (a : Axis) (high : Bool) (b d : BlockAt) (
       let w = 2 * there.at + side_half (not high) in
       ap (is_split_block g) child_is
       ∙ calm_block g valid.tiles valid.shape.max valid.rule (half_block a b u q) (half_block a b w q) b (subst (λ e. IsChild e b) (sym (own_half a b high q)) (is_child b (octant_on a (side_half high) q)))
-        whole inside (half_level a b w q ∙ sym (half_level a b u q))
-        (λ h. halves_touch g.shape a b q u w deep (halves_meet (is_periodic g.shape a) high (roots g.shape a * 2 ^ b.level) (block_on a b) there.at side_by_side))
+      whole inside (half_level a b w q ∙ sym (half_level a b u q))
+      (λ h. halves_touch g.shape a b q u w deep (halves_meet (is_periodic g.shape a) high (roots g.shape a * 2 ^ b.level) (block_on a b) there.at side_by_side))
 
   -- the child is a leaf, by the level rule
   pub child_leaf : is_leaf_block g (child_beside a high q d) ≡ true

@@ -1,23 +1,21 @@
 -- The sums of a side's four quarters, and a world of which a leaf has taken them.
-use Rattle.std.proofs.Common.{◌≡◌, ℕ, ◌+◌, ◌*◌, ◌/◌, ◌%◌, ◌^◌, ◌<◌, ◌≤◌, ◌⊎◌, Bool, not, List, length, ℤ, refl, sym, ap, ap₂, subst, ◌∙◌, arith, inl, inr}
+use Rattle.std.proofs.Common.{◌≡◌, ℕ, ◌+◌, ◌*◌, ◌/◌, ◌%◌, ◌^◌, ◌<◌, ◌⊎◌, Bool, not, List, length, ℤ, sym, ap, subst, ◌∙◌, arith}
 use Rattle.amr_num.specs.Numbers.{Within, at}
 use Rattle.amr_num.proofs.Parts.{sum_below_same}
 use Rattle.amr_num.specs.declared.Axis.{Axis}
 use Rattle.mesh_model.specs.declared.fields.values.Var.TheVariants.{FaceWork}
 use Rattle.mesh_model.specs.Fields.ArrayPlaces.{IsSize}
-use Rattle.mesh_model.specs.Fields.Arrays.{HasArray, array_in, var_length}
-use Rattle.mesh_model.specs.Fields.Ranks.{IsFit, IsSized, WorldState, rank_at, world_with}
+use Rattle.mesh_model.specs.Fields.Arrays.{var_length}
+use Rattle.mesh_model.specs.Fields.Ranks.{IsFit, IsSized, WorldState, world_with}
 use Rattle.mesh_model.specs.declared.geometry.Shape.{Shape}
 use Rattle.mesh_model.specs.Geometry.Limits.{IsShape}
-use Rattle.mesh_model.specs.Tree.Order.{nodes}
 use Rattle.mesh_model.proofs.FieldLemmas.BlockPlaces.{above_digit, below_all, digit}
 use Rattle.mesh_model.proofs.FieldLemmas.Worlds.{fit_after, has_array, only_of, written_in}
 use Rattle.mesh_model.proofs.GeometryLemmas.Halves.{half_below, pair_inside, rest_below}
 use Rattle.block_tree.specs.Numbered.{IsNode, IsNumberOf, block_at}
-use Rattle.flux_conserve.specs.Jumps.{BlockFaces, IsFacePlace, child_beside, four_finer, quarter_at, quarter_sum, side_position}
-use Rattle.flux_conserve.specs.Sums.{AreFacesSet, IsSideSet, four_at, quarter_size, sum_place}
+use Rattle.flux_conserve.specs.Jumps.{BlockFaces, child_beside, four_finer, quarter_at, quarter_sum, side_position}
+use Rattle.flux_conserve.specs.Sums.{IsSideSet, four_at, quarter_size, sum_place}
 use Rattle.flux_conserve.specs.Work.{NearHas, SideTaken, face_at, work_array, work_at}
-use Rattle.flux_conserve.proofs.Fields.{side_within}
 
 -- the sizes of a world's blocks
 pub sizes : (n e : ℕ) (s : Shape) → IsSized n e s → IsShape s → IsSize n e
@@ -43,7 +41,7 @@ pub four_near : (n e : ℕ) (w : WorldState) (a : Axis) (high : Bool) (beside q 
     four_at n e a (work_array w a child) (side_position n (not high)) s t ≡ quarter_sum n faces a high (block_at w.told.grid beside) q s t
 four_near n e w a high beside q child s t faces sized near hq is =
     let Given : ℕ → ℕ → Type 0 = λ m k. (m ≡ 4) ⊎ (m ≡ 8) → s < m / 2 → t < m / 2 →
-        four_at m k a (work_array w a child) (side_position m (not high)) s t ≡ quarter_sum m faces a high (block_at w.told.grid beside) q s t in
+    four_at m k a (work_array w a child) (side_position m (not high)) s t ≡ quarter_sum m faces a high (block_at w.told.grid beside) q s t in
     subst (λ m. Given m e) sized.cells (subst (λ k. Given w.told.grid.shape.n k) sized.guards (four_there w a high beside q child s t faces near hq is))
 
 -- where the sum for a place stands

@@ -1,27 +1,25 @@
 -- Worlds in which a side of a leaf has taken its sums.
-use Rattle.std.proofs.Common.{◌≡◌, ℕ, ◌+◌, ◌*◌, ◌^◌, ◌<◌, ◌≤◌, ◌⊎◌, Bool, not, List, length, Option, Some, None, ℤ, refl, sym, ap, ap₂, subst, ◌∙◌, arith, inl, inr}
+use Rattle.std.proofs.Common.{◌≡◌, ℕ, ◌+◌, ◌^◌, ◌<◌, ◌⊎◌, Bool, not, List, Some, None, ℤ, refl, sym, ap, subst, ◌∙◌, arith, inl, inr}
 use Rattle.std.proofs.lemmas.Bool.{cases_order}
-use Rattle.amr_num.specs.Numbers.{Within, at}
+use Rattle.amr_num.specs.Numbers.{Within}
 use Rattle.amr_num.specs.declared.Axis.{Axis}
-use Rattle.amr_num.specs.declared.Axis.TheVariants.{X, Y, Z}
 use Rattle.amr_num.specs.declared.BlockAt.{BlockAt}
 use Rattle.amr_num.specs.declared.FaceAt.{FaceAt}
-use Rattle.mesh_model.specs.declared.fields.values.Var.{Var}
 use Rattle.mesh_model.specs.declared.fields.values.Var.TheVariants.{FaceWork}
 use Rattle.mesh_model.specs.Geometry.Canonical.{canonical_on}
 use Rattle.mesh_model.specs.Geometry.Coordinates.{axis_index, face_of}
-use Rattle.mesh_model.specs.Geometry.Places.{in_block, longer_on}
+use Rattle.mesh_model.specs.Geometry.Places.{in_block}
 use Rattle.mesh_model.specs.Tree.Kinds.{Grid, is_leaf_block}
 use Rattle.mesh_model.specs.Tree.ValidGrid.{Valid}
-use Rattle.mesh_model.specs.Fields.ArrayPlaces.{HoldsFaceField, face_extents, number_at}
-use Rattle.mesh_model.specs.Fields.Ranks.{IsFit, OnlyOf, RankState, Told, WorldState, rank_at}
+use Rattle.mesh_model.specs.Fields.ArrayPlaces.{face_extents, number_at}
+use Rattle.mesh_model.specs.Fields.Ranks.{IsFit, RankState, Told, WorldState}
 use Rattle.mesh_model.proofs.FieldLemmas.BlockArrays.{number_once}
 use Rattle.mesh_model.proofs.GeometryLemmas.ShapeLimits.{cells_some}
 use Rattle.block_tree.specs.Numbered.{IsNumberOf, block_at}
 use Rattle.rank_world.specs.Holding.{IsLeafNode}
-use Rattle.flux_conserve.specs.Jumps.{BlockFaces, IsCalm, IsFacePlace, child_beside, corrected, face_name, finer_beside, four_finer, jumped, side_position, spot}
-use Rattle.flux_conserve.specs.Work.{AreSummed, CalmHas, IsFinerNode, IsTame, LeafWithin, NearHas, NearWithin, OnlyWorkFaces, SideHas, SideTaken, WorkHas, WorkHolds, WorkWithin, face_at, work_array, work_at}
-use Rattle.flux_conserve.proofs.Fields.{IsJump, at_spot, by_spot, corrected_calm, corrected_jump, face_kind, field_corrected, named, near_calm, near_leaf, same_side, side_within}
+use Rattle.flux_conserve.specs.Jumps.{BlockFaces, IsCalm, IsFacePlace, child_beside, corrected, face_name, finer_beside, four_finer, jumped, side_position}
+use Rattle.flux_conserve.specs.Work.{AreSummed, CalmHas, IsFinerNode, IsTame, NearHas, NearWithin, SideHas, SideTaken, WorkHas, WorkHolds, WorkWithin, face_at, work_array, work_at}
+use Rattle.flux_conserve.proofs.Fields.{at_spot, by_spot, corrected_calm, corrected_jump, face_kind, field_corrected, named, near_calm, near_leaf, same_side, side_within}
 
 -- ---- numbers by three places, and by one along an axis and two across it
 
@@ -51,7 +49,7 @@ small_tame w small =
     let g = w.told.grid in
     let each : (node : ℕ) (a : Axis) (p s t : ℕ) → IsLeafNode g node → IsFacePlace g.shape.n p s t → Within (2 ^ 56) (work_at w a node p s t) =
     λ node a p s t leaf place.
-        at_spot (λ i j k. Within (2 ^ 56) (number_at (face_extents g.shape.n g.shape.g a) (work_array w a node) (g.shape.g + i) (g.shape.g + j) (g.shape.g + k))) a g.shape.n (small node a leaf).at p s t place in
+    at_spot (λ i j k. Within (2 ^ 56) (number_at (face_extents g.shape.n g.shape.g a) (work_array w a node) (g.shape.g + i) (g.shape.g + j) (g.shape.g + k))) a g.shape.n (small node a leaf).at p s t place in
     record {
       calm = λ node a p s t leaf place calm. each node a p s t leaf place;
       all = λ node a p s t leaf place. let one = each node a p s t leaf place in omega arith;

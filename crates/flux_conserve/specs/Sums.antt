@@ -1,6 +1,6 @@
 -- Sums of a block's faces at one of its sides.
 use Rattle.std.specs.Prelude.{◌≡◌, ℕ, ◌+◌, ◌*◌, ◌/◌, ◌%◌, ◌<◌, List, length, ℤ}
-use Rattle.amr_num.specs.Numbers.{at, sum_below}
+use Rattle.amr_num.specs.Numbers.{sum_below}
 use Rattle.amr_num.specs.declared.Axis.{Axis}
 use Rattle.flux_conserve.specs.Jumps.{IsFacePlace, quarter_at}
 use Rattle.flux_conserve.specs.Work.{face_at}

@@ -66,7 +66,13 @@ fn sum_child<const N: usize, const G: usize>(
     let faces = Faces { n: N, g: G, axis };
     let values = world.values(Var::FaceWork(axis), child);
     let half = N / 2;
-    sum_side(faces, values, position(N, !high), half * half * quarter, sums);
+    sum_side(
+        faces,
+        values,
+        position(N, !high),
+        half * half * quarter,
+        sums,
+    );
 }
 
 /// Sums the faces of the finer leaves at the side `high` of a coarser one, by quarters of the side.

@@ -78,11 +78,7 @@ fn set_work(world: &mut World<4, 1>, node: u32, place: usize, value: i32)
     ensures small { WorkWithin world.new (2 ^ 56) }
 {
     if node < world.tree().len() {
-        put(
-            world.values_mut(Var::FaceWork(Axis::X), node),
-            place,
-            value,
-        );
+        put(world.values_mut(Var::FaceWork(Axis::X), node), place, value);
     }
 }
 
@@ -138,7 +134,11 @@ fn coarse_faces_take_the_sums_of_finer_ones(rt: HostRuntime) {
         }
         correct(&mut mesh);
         for (node, place, ended, wrapped) in AFTER {
-            let wanted = if kind == SideKind::Periodic { wrapped } else { ended };
+            let wanted = if kind == SideKind::Periodic {
+                wrapped
+            } else {
+                ended
+            };
             assert_eq!(rt; work(&mesh, node, place), Some(wanted));
         }
     }

@@ -1,6 +1,4 @@
-use Rattle.std.proofs.Common.{◌≡◌, ◌*◌, ◌^◌, ℕ, Bool, Some, None, Option, ap, ap₂, sym, ◌∙◌}
-use Rattle.mesh_model.specs.Geometry.Coordinates.{is_periodic, roots}
-use Rattle.mesh_model.specs.Geometry.Touch.{block_on}
+use Rattle.std.proofs.Common.{◌≡◌, ℕ, Bool, Some, None, Option, ap, ap₂, sym, ◌∙◌}
 use Rattle.flux_conserve.specs.Jumps.{beside_on}
 use Rattle.flux_conserve.proofs.Finer.{beside_is}
 use Rattle.flux_conserve.proofs.beside.block_beside.Goals as goal
@@ -12,7 +10,7 @@ pub returns-in-Some : goal.returns-in-Some
 returns-in-Some c =
     ap Some c.block_with.ensures
     ∙ beside_is c.args.shape.now c.args.axis c.args.high c.args.b (Some c.in-Some.coordinate)
-      (in_words _ _ c.args.high _ _ _ _ _ _ c.coordinate_beside.ensures c.is_periodic.ensures c.blocks_on-many.ensures c.block_on.ensures c.in-Some.is)
+    (in_words _ _ c.args.high _ _ _ _ _ _ c.coordinate_beside.ensures c.is_periodic.ensures c.blocks_on-many.ensures c.block_on.ensures c.in-Some.is)
 
 pub returns-in-None : goal.returns-in-None
 returns-in-None c =

@@ -1,5 +1,4 @@
-use Rattle.std.proofs.Common.{◌≡◌, false, Option, Some, None, MatchOption, ap, sym, subst, ◌∙◌}
-use Rattle.amr_num.specs.declared.BlockAt.{BlockAt}
+use Rattle.std.proofs.Common.{◌≡◌, false, Some, None, MatchOption, ap, sym, subst, ◌∙◌}
 use Rattle.mesh_model.specs.declared.geometry.Shape.{Shape}
 use Rattle.mesh_model.specs.Tree.Kinds.{is_split_block}
 use Rattle.mesh_model.specs.Tree.ValidGrid.{Valid}

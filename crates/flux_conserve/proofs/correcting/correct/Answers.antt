@@ -1,14 +1,12 @@
-use Rattle.std.proofs.Common.{◌≡◌, ◌<◌, ◌≤◌, ℕ, Bool, length, ap, subst, sym, ◌∙◌, arith, inl, inr}
+use Rattle.std.proofs.Common.{◌≡◌, length, ap, subst, sym, ◌∙◌, arith, inl, inr}
 use Rattle.std.proofs.lemmas.Bool.{cases_lt}
-use Rattle.amr_num.specs.declared.Axis.{Axis}
 use Rattle.mesh_model.specs.Fields.Ranks.{Told}
 use Rattle.mesh_model.specs.Tree.Kinds.{Grid}
 use Rattle.mesh_model.specs.Tree.Order.{nodes}
 use Rattle.mesh_model.specs.Tree.ValidGrid.{Valid}
 use Rattle.block_tree.proofs.Facts.{known}
 use Rattle.rank_world.specs.Holding.{IsLeafNode}
-use Rattle.flux_conserve.specs.Jumps.{BlockFaces}
-use Rattle.flux_conserve.specs.Work.{CalmHas, SideHas}
+use Rattle.flux_conserve.specs.Work.{SideHas}
 use Rattle.flux_conserve.proofs.Worlds.{field_after, none_summed, numbers_after, small_tame, tame_small, then_summed}
 use Rattle.flux_conserve.proofs.correcting.correct.Goals as goal
 

@@ -1,4 +1,4 @@
-use Rattle.std.proofs.Common.{◌≡◌, ℕ, ◌+◌, ◌*◌, ◌/◌, ◌%◌, ◌^◌, ◌<◌, ◌≤◌, ◌⊎◌, ap, ap₂, subst, sym, ◌∙◌, arith, inl, inr}
+use Rattle.std.proofs.Common.{◌≡◌, ℕ, ◌+◌, ◌*◌, ◌/◌, ◌%◌, ◌^◌, ◌<◌, ◌≤◌, ap, ap₂, subst, sym, ◌∙◌, arith, inl, inr}
 use Rattle.std.proofs.Math.Nat.{mul-le-mul_left}
 use Rattle.std.proofs.lemmas.Bool.{cases_lt}
 use Rattle.amr_num.specs.Numbers.{Within, at}
@@ -8,9 +8,9 @@ use Rattle.mesh_model.proofs.FieldLemmas.BlockPlaces.{quotient_below}
 use Rattle.mesh_model.proofs.GeometryLemmas.Halves.{rest_below}
 use Rattle.block_tree.proofs.Facts.{known}
 use Rattle.block_tree.specs.Numbered.{IsNumberOf, block_at}
-use Rattle.flux_conserve.specs.Jumps.{child_beside, octant_on, quarter_at, quarter_sum, side_half}
+use Rattle.flux_conserve.specs.Jumps.{quarter_at, quarter_sum}
 use Rattle.mesh_model.specs.Geometry.Blocks.{child_block}
-use Rattle.flux_conserve.specs.Sums.{quarter_size, sum_place}
+use Rattle.flux_conserve.specs.Sums.{quarter_size}
 use Rattle.flux_conserve.proofs.Taking.{four_near, quarter_less, rest_first, rest_less, rest_second, sizes}
 use Rattle.flux_conserve.proofs.correcting.gather.Goals as goal
 
@@ -37,7 +37,7 @@ loop-quarter-preserved g c =
             let last : q ≡ k = omega arith in
             ap (λ u. at c.sum_child.new.sums (quarter_size n * u + m)) last ∙ row.here m hm
             ∙ four_near n g.row.G w c.args.axis c.args.high c.args.beside k c.in-Some.child (m % half) (m / half) faces c.requires.fit.sizes near c.loop-quarter-test.true number size (rest_below n m size)
-              (quotient_below m half half (omega arith) hm)
+            (quotient_below m half half (omega arith) hm)
             ∙ ap (λ u. quarter_sum n faces c.args.axis c.args.high (block_at w.told.grid c.args.beside) u (m % half) (m / half)) (sym last))
       ];
       within = λ q m hq hm. elim (cases_lt q k) [

@@ -1,4 +1,4 @@
-use Rattle.std.proofs.Common.{◌≡◌, length, List, ℤ, subst, sym, ◌∙◌}
+use Rattle.std.proofs.Common.{◌≡◌, length, List, ℤ, subst, ◌∙◌}
 use Rattle.amr_num.specs.Numbers.{at}
 use Rattle.mesh_model.specs.Fields.Arrays.{var_length}
 use Rattle.mesh_model.specs.Tree.ValidGrid.{Valid}

@@ -1,4 +1,4 @@
-use Rattle.std.proofs.Common.{rules, ◌≡◌, ◌<◌, length, set, subst, sym}
+use Rattle.std.proofs.Common.{rules, ◌<◌, length, set, subst, sym}
 use Rattle.flux_conserve.specs.Sums.{IsFaceSet}
 use Rattle.flux_conserve.proofs.FacePlaces.{face_set, stands_at}
 use Rattle.flux_conserve.proofs.faces.set_face.Goals as goal

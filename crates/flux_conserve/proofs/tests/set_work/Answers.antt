@@ -1,4 +1,4 @@
-use Rattle.std.proofs.Common.{◌≡◌, ◌<◌, List, ℤ, length, refl, ap, subst, sym, ◌∙◌, inl}
+use Rattle.std.proofs.Common.{◌≡◌, ◌<◌, List, ℤ, length, refl, ap, subst, ◌∙◌, inl}
 use Rattle.amr_num.specs.declared.Axis.TheVariants.{X}
 use Rattle.mesh_model.specs.declared.fields.values.Var.TheVariants.{FaceWork}
 use Rattle.mesh_model.specs.Fields.ArrayPlaces.{IsSize}
@@ -8,7 +8,6 @@ use Rattle.mesh_model.specs.Tree.Order.{nodes}
 use Rattle.mesh_model.proofs.FieldLemmas.Worlds.{fit_after, has_array}
 use Rattle.block_tree.specs.Numbered.{IsNode}
 use Rattle.flux_conserve.specs.Puts.{IsPut}
-use Rattle.flux_conserve.specs.Work.{work_array}
 use Rattle.flux_conserve.proofs.Puts.{put_small}
 use Rattle.flux_conserve.proofs.tests.set_work.Goals as goal
 
