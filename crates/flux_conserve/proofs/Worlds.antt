@@ -17,6 +17,7 @@ use Rattle.mesh_model.proofs.FieldLemmas.BlockArrays.{number_once}
 use Rattle.mesh_model.proofs.GeometryLemmas.ShapeLimits.{cells_some}
 use Rattle.block_tree.specs.Numbered.{IsNumberOf, block_at}
 use Rattle.rank_world.specs.Holding.{IsLeafNode}
+use Rattle.rank_world.proofs.Puts.{which_array}
 use Rattle.flux_conserve.specs.Jumps.{BlockFaces, IsCalm, IsFacePlace, child_beside, corrected, face_name, finer_beside, four_finer, jumped, side_position}
 use Rattle.flux_conserve.specs.Work.{AreSummed, CalmHas, IsFinerNode, IsTame, NearHas, NearWithin, SideHas, SideTaken, WorkHas, WorkHolds, WorkWithin, face_at, work_array, work_at}
 use Rattle.flux_conserve.proofs.Fields.{at_spot, by_spot, corrected_calm, corrected_jump, face_kind, field_corrected, named, near_calm, near_leaf, same_side, side_within}
@@ -125,17 +126,11 @@ module _ (w : WorldState) (valid : Valid w.told.grid) (node : ℕ) (a : Axis) (h
 
 -- ---- one side of a leaf has taken its sums
 
-same_axis : (a d : Axis) → axis_index a ≡ axis_index d → a ≡ d
-same_axis a d is = let same : FaceWork a ≡ FaceWork d = number_once (FaceWork a) (FaceWork d) (ap (λ m. 1 + m) is) in cc
-
--- an array is the one that was written, or another
-pub which_array : (node k : ℕ) (a d : Axis) → ((k ≡ node) × (d ≡ a)) ⊎ (FaceWork d ≡ FaceWork a → k ≡ node → ⊥)
-which_array node k a d = elim (cases_order k node) [
-  | inr apart ↦ inr (λ e is. absurd (elim apart [ inl h ↦ omega arith | inr h ↦ omega arith ]))
-  | inl here ↦ elim (cases_order (axis_index d) (axis_index a)) [
-    | inl same ↦ inl (here, same_axis d a same)
-    | inr apart ↦ inr (λ e is. absurd (let same : d ≡ a = cc in let index = ap axis_index same in elim apart [ inl h ↦ omega arith | inr h ↦ omega arith ]))
-  ]
+-- the work faces of a node on an axis are certain ones, or others
+which_faces : (node k : ℕ) (a d : Axis) → ((k ≡ node) × (d ≡ a)) ⊎ (FaceWork d ≡ FaceWork a → k ≡ node → ⊥)
+which_faces node k a d = elim (which_array node k (FaceWork a) (FaceWork d)) [
+  | inl (is_node, is_var) ↦ inl (is_node, cc)
+  | inr other ↦ inr other
 ]
 
 which_side : (high h : Bool) (n : ℕ) → 0 < n → (h ≡ high) ⊎ (side_position n h ≡ side_position n high → ⊥)
@@ -161,7 +156,7 @@ module _ (n e : ℕ) (told : Told) (ranks again : List RankState) (valid : Valid
 
   -- a number at another place stays
   stays : (k : ℕ) (d : Axis) (p s t : ℕ) → IsFacePlace m p s t → (k ≡ node → d ≡ a → p ≡ side_position m high → ⊥) → work_at new d k p s t ≡ work_at old d k p s t
-  stays k d p s t place apart = elim (which_array node k a d) [
+  stays k d p s t place apart = elim (which_faces node k a d) [
     | inr other ↦ ap (λ xs. face_at m told.grid.shape.g d xs p s t) (taken.only.here.others (FaceWork d) k other)
     | inl (is_node, is_axis) ↦
         subst (λ u. work_at new d u p s t ≡ work_at old d u p s t) (sym is_node)
@@ -172,7 +167,7 @@ module _ (n e : ℕ) (told : Told) (ranks again : List RankState) (valid : Valid
   which : (k : ℕ) (d : Axis) (p s t : ℕ) → IsFacePlace m p s t → ((k ≡ node) × (d ≡ a) × (p ≡ side_position m high)) ⊎ (work_at new d k p s t ≡ work_at old d k p s t)
   which k d p s t place = elim (cases_order p (side_position m high)) [
     | inr apart ↦ inr (stays k d p s t place (λ i j is. absurd (elim apart [ inl h ↦ omega arith | inr h ↦ omega arith ])))
-    | inl is_side ↦ elim (which_array node k a d) [
+    | inl is_side ↦ elim (which_faces node k a d) [
       | inl (is_node, is_axis) ↦ inl (is_node, is_axis, is_side)
       | inr other ↦ inr (stays k d p s t place (λ i j is. other (ap FaceWork j) i))
     ]
@@ -217,7 +212,7 @@ module _ (n e : ℕ) (told : Told) (ranks again : List RankState) (valid : Valid
   }
 
   side_keeps : (faces : BlockFaces) (k : ℕ) (d : Axis) (h : Bool) → CalmHas old faces → SideHas old faces k d h → SideHas new faces k d h
-  side_keeps faces k d h calm has = elim (which_array node k a d) [
+  side_keeps faces k d h calm has = elim (which_faces node k a d) [
     | inr other ↦ other_side faces k d h (λ i j is. other (ap FaceWork j) i) has
     | inl (is_node, is_axis) ↦ elim (which_side high h m some) [
       | inr apart ↦ other_side faces k d h (λ i j is. apart is) has

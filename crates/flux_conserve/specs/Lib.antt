@@ -1,5 +1,4 @@
 pub mod Jumps
 pub mod Work
 pub mod Sums
-pub mod Puts
 pub mod Laws

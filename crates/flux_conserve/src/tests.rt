@@ -2,7 +2,7 @@
 
 ghost use Rattle.amr_num.specs.Numbers.{Within, at};
 ghost use Rattle.flux_conserve.specs.Work.{WorkWithin};
-ghost use Rattle.flux_conserve.specs.Puts.{IsPut};
+ghost use Rattle.rank_world.specs.Puts.{IsPut};
 ghost use Rattle.mesh_model.specs.Fields.Ranks.{IsFit};
 ghost use Rattle.mesh_model.specs.Geometry.Limits.{IsShape};
 ghost use Rattle.std.specs.Prelude.{◌≡◌, ◌≤◌, ◌^◌, IfSome};
@@ -63,7 +63,7 @@ fn refined_world(alloc: Global, kind: SideKind) -> Option<World<4, 1>>
 
 /// Puts a number of few bits at a place of a list that is that long.
 fn put(values: &mut [i64], place: usize, value: i32)
-    ensures { IsPut values.old values.new }
+    ensures { IsPut (2 ^ 56) values.old values.new }
 {
     if place < values.len() {
         values[place] = i64::from(value);
