@@ -125,11 +125,7 @@ fn set_cell<const N: usize, const G: usize>(
 }
 
 /// The number there.
-fn cell<const N: usize, const G: usize>(
-    world: &World<N, G>,
-    node: u32,
-    place: usize,
-) -> Option<i64>
+fn cell<const N: usize, const G: usize>(world: &World<N, G>, node: u32, place: usize) -> Option<i64>
     requires { IsFit N G world.now }
 {
     if node < world.tree().len() && world.layout().cells > 0 {
