@@ -5,7 +5,7 @@ use Rattle.std.proofs.lemmas.List.{get_or-set_other, get_or-set_same, length-set
 use Rattle.amr_num.specs.Numbers.{Within}
 use Rattle.amr_num.specs.declared.Axis.{Axis}
 use Rattle.amr_num.specs.declared.Axis.TheVariants.{X, Y, Z}
-use Rattle.mesh_model.specs.Fields.ArrayPlaces.{face_extents, place_in}
+use Rattle.mesh_model.specs.Fields.ArrayPlaces.{Extents, face_extents, place_in}
 use Rattle.mesh_model.proofs.FieldLemmas.BlockPlaces.{same_x, same_y, same_z}
 use Rattle.flux_conserve.specs.Jumps.{IsFacePlace, spot}
 use Rattle.flux_conserve.specs.Sums.{IsFaceSet, four_at}
@@ -15,31 +15,14 @@ use Rattle.flux_conserve.specs.Work.{face_at}
 abbrev pub stands_at : ℕ → ℕ → Axis → ℕ → ℕ → ℕ → ℕ
 stands_at n g a p s t = place_in (face_extents n g a) (g + (spot a p s t).x) (g + (spot a p s t).y) (g + (spot a p s t).z)
 
-record SamePlace (p s t q i j : ℕ) : Type 0 where
-  along : q ≡ p
-  first : i ≡ s
-  second : j ≡ t
+three_same : (e : Extents) (i j k x y z : ℕ) → i < e.x → x < e.x → j < e.y → y < e.y → place_in e i j k ≡ place_in e x y z → (i ≡ x) × (j ≡ y) × (k ≡ z)
+three_same e i j k x y z hi hx hj hy is = (same_x e i j k x y z hi hx is, same_y e i j k x y z hi hx hj hy is, same_z e i j k x y z hi hx hj hy is)
 
 module _ (n g p s t q i j : ℕ) (one : IsFacePlace n p s t) (other : IsFacePlace n q i j) where
-  once : (a : Axis) → stands_at n g a q i j ≡ stands_at n g a p s t → SamePlace p s t q i j
-  once X is =
-      let e = face_extents n g X in
-      let x : g + q ≡ g + p = same_x e _ _ _ _ _ _ (omega arith) (omega arith) is in
-      let y : g + i ≡ g + s = same_y e _ _ _ _ _ _ (omega arith) (omega arith) (omega arith) (omega arith) is in
-      let z : g + j ≡ g + t = same_z e _ _ _ _ _ _ (omega arith) (omega arith) (omega arith) (omega arith) is in
-      record { along = omega arith; first = omega arith; second = omega arith }
-  once Y is =
-      let e = face_extents n g Y in
-      let x : g + i ≡ g + s = same_x e _ _ _ _ _ _ (omega arith) (omega arith) is in
-      let y : g + q ≡ g + p = same_y e _ _ _ _ _ _ (omega arith) (omega arith) (omega arith) (omega arith) is in
-      let z : g + j ≡ g + t = same_z e _ _ _ _ _ _ (omega arith) (omega arith) (omega arith) (omega arith) is in
-      record { along = omega arith; first = omega arith; second = omega arith }
-  once Z is =
-      let e = face_extents n g Z in
-      let x : g + i ≡ g + s = same_x e _ _ _ _ _ _ (omega arith) (omega arith) is in
-      let y : g + j ≡ g + t = same_y e _ _ _ _ _ _ (omega arith) (omega arith) (omega arith) (omega arith) is in
-      let z : g + q ≡ g + p = same_z e _ _ _ _ _ _ (omega arith) (omega arith) (omega arith) (omega arith) is in
-      record { along = omega arith; first = omega arith; second = omega arith }
+  once : (a : Axis) → stands_at n g a q i j ≡ stands_at n g a p s t → (q ≡ p) × (i ≡ s) × (j ≡ t)
+  once X is = let same = three_same (face_extents n g X) _ _ _ _ _ _ (omega arith) (omega arith) (omega arith) (omega arith) is in (omega arith, omega arith, omega arith)
+  once Y is = let same = three_same (face_extents n g Y) _ _ _ _ _ _ (omega arith) (omega arith) (omega arith) (omega arith) is in (omega arith, omega arith, omega arith)
+  once Z is = let same = three_same (face_extents n g Z) _ _ _ _ _ _ (omega arith) (omega arith) (omega arith) (omega arith) is in (omega arith, omega arith, omega arith)
 
 -- a face is written
 pub face_set : (n g : ℕ) (a : Axis) (p s t : ℕ) (value : ℤ) (old : List ℤ) → IsFacePlace n p s t → stands_at n g a p s t < length old →
@@ -49,7 +32,7 @@ face_set n g a p s t value old one inside = record {
   size = length-set old (stands_at n g a p s t) value;
   here = get_or-set_same old (stands_at n g a p s t) value (pos 0) inside;
   others = λ q i j other apart.
-      let ne : stands_at n g a q i j ≢ stands_at n g a p s t = (λ is. let same = once n g p s t q i j one other a is in apart same.along same.first same.second) in
+      let ne : stands_at n g a q i j ≢ stands_at n g a p s t = (λ is. let same = once n g p s t q i j one other a is in apart same.0 same.1 same.2) in
       get_or-set_other old (stands_at n g a p s t) (stands_at n g a q i j) value (pos 0) ne;
 }
 

@@ -72,21 +72,20 @@ module _ (s : Shape) (a : Axis) (b : BlockAt) (p q r : ℕ) where
   unfolding face_name
   name_is = ap₂ (λ e x. face_of a (with a (wrapped (is_periodic s a) e x) (cell s.n a b p q r))) (extent_is s a b.level) (on_cell s.n a b p q r)
 
-  low_is : low_cell s (face_name s a b p q r) ≡ moved a (below (is_periodic s a) (roots s a * 2 ^ b.level * s.n) position) (cell s.n a b p q r)
-  low_is =
+  -- what lies beside the face by its position lies there by the position of the block's cell
+  by_position : (beside : Bool → ℕ → ℕ → Option ℕ) → let c = with a position (cell s.n a b p q r) in
+      moved a (beside (is_periodic s a) (extent s a c.level) (on a c)) c ≡ moved a (beside (is_periodic s a) (roots s a * 2 ^ b.level * s.n) position) (cell s.n a b p q r)
+  by_position beside =
       let c = cell s.n a b p q r in
-      ap (low_cell s) name_is
-      ∙ ap₂ (λ l x. moved a (below (is_periodic s a) (extent s a l) x) (with a position c)) (with_level a position c) (on_with a position c)
-      ∙ ap (λ e. moved a (below (is_periodic s a) e position) (with a position c)) (extent_is s a b.level)
-      ∙ moved_again a (below (is_periodic s a) (roots s a * 2 ^ b.level * s.n) position) position c
+      ap₂ (λ l x. moved a (beside (is_periodic s a) (extent s a l) x) (with a position c)) (with_level a position c) (on_with a position c)
+      ∙ ap (λ e. moved a (beside (is_periodic s a) e position) (with a position c)) (extent_is s a b.level)
+      ∙ moved_again a (beside (is_periodic s a) (roots s a * 2 ^ b.level * s.n) position) position c
+
+  low_is : low_cell s (face_name s a b p q r) ≡ moved a (below (is_periodic s a) (roots s a * 2 ^ b.level * s.n) position) (cell s.n a b p q r)
+  low_is = ap (low_cell s) name_is ∙ by_position below
 
   high_is : high_cell s (face_name s a b p q r) ≡ moved a (above (is_periodic s a) (roots s a * 2 ^ b.level * s.n) position) (cell s.n a b p q r)
-  high_is =
-      let c = cell s.n a b p q r in
-      ap (high_cell s) name_is
-      ∙ ap₂ (λ l x. moved a (above (is_periodic s a) (extent s a l) x) (with a position c)) (with_level a position c) (on_with a position c)
-      ∙ ap (λ e. moved a (above (is_periodic s a) e position) (with a position c)) (extent_is s a b.level)
-      ∙ moved_again a (above (is_periodic s a) (roots s a * 2 ^ b.level * s.n) position) position c
+  high_is = ap (high_cell s) name_is ∙ by_position above
 
 block_on_inside : (s : Shape) (a : Axis) (b : BlockAt) → InDomain s b → block_on a b < roots s a * 2 ^ b.level
 block_on_inside s X b inside = inside.x

@@ -1,4 +1,4 @@
-use Rattle.std.proofs.Common.{◌≡◌, length, ap, subst, sym, ◌∙◌, arith, inl, inr}
+use Rattle.std.proofs.Common.{◌≡◌, ◌<◌, ℕ, Bool, length, ap, subst, sym, ◌∙◌, arith, inl, inr}
 use Rattle.std.proofs.lemmas.Bool.{cases_lt}
 use Rattle.mesh_model.specs.Fields.Ranks.{Told}
 use Rattle.mesh_model.specs.Tree.Kinds.{Grid}
@@ -6,7 +6,9 @@ use Rattle.mesh_model.specs.Tree.Order.{nodes}
 use Rattle.mesh_model.specs.Tree.ValidGrid.{Valid}
 use Rattle.block_tree.proofs.Facts.{known}
 use Rattle.rank_world.specs.Holding.{IsLeafNode}
-use Rattle.flux_conserve.specs.Work.{SideHas}
+use Rattle.flux_conserve.specs.Work.{CalmHas, SideHas}
+use Rattle.amr_num.specs.declared.Axis.{Axis}
+use Rattle.flux_conserve.specs.Jumps.{BlockFaces}
 use Rattle.flux_conserve.proofs.Worlds.{field_after, none_summed, numbers_after, small_tame, tame_small, then_summed}
 use Rattle.flux_conserve.proofs.correcting.correct.Goals as goal
 
@@ -35,21 +37,19 @@ loop-node-preserved g c =
           ];
     }
 
-pub returns-clause-field : goal.returns-clause-field
-returns-clause-field g c =
+pub returns : goal.returns
+returns g c =
     let old = c.args.world.now in
+    let now = c.loop-node.world in
+    let steps = c.loop-node.invariant.summed in
     let valid : Valid old.told.grid = subst Valid c.tree.ensures (known c.tree.result.now).valid in
     let many : c.len-node-end.result ≡ length (nodes old.told.grid.leaves) = c.len-node-end.ensures.value ∙ ap (λ (h : Grid). length (nodes h.leaves)) c.tree.ensures in
-    field_after g.row.N g.row.G old c.loop-node.world valid c.loop-node.invariant.summed
-    (λ faces k a high leaf calm. let there = leaf.there in c.loop-node.invariant.sides faces k a high (omega arith) leaf calm)
-
-pub returns-clause-places : goal.returns-clause-places
-returns-clause-places g c =
-    let old = c.args.world.now in
-    let valid : Valid old.told.grid = subst Valid c.tree.ensures (known c.tree.result.now).valid in
-    let many : c.len-node-end.result ≡ length (nodes old.told.grid.leaves) = c.len-node-end.ensures.value ∙ ap (λ (h : Grid). length (nodes h.leaves)) c.tree.ensures in
-    numbers_after g.row.N g.row.G old c.loop-node.world valid c.loop-node.invariant.summed
-    (λ faces k a high leaf calm. let there = leaf.there in c.loop-node.invariant.sides faces k a high (omega arith) leaf calm)
-
-pub returns-clause-small : goal.returns-clause-small
-returns-clause-small g c = tame_small c.loop-node.world c.loop-node.invariant.summed.tame
+    let sides : (faces : BlockFaces) (k : ℕ) (a : Axis) (high : Bool) → IsLeafNode old.told.grid k → CalmHas old faces → SideHas now faces k a high =
+    λ faces k a high leaf calm. let there = leaf.there in c.loop-node.invariant.sides faces k a high (omega arith) leaf calm in
+    record {
+      only = steps.only;
+      fit = steps.fit;
+      field = field_after g.row.N g.row.G old now valid steps sides;
+      places = numbers_after g.row.N g.row.G old now valid steps sides;
+      small = tame_small now steps.tame;
+    }

@@ -13,16 +13,12 @@ take_sums-requires g c =
       (c.requires.fit, (c.requires.leaf, (finer, near_within w valid c.args.node c.args.axis c.args.high c.in-Some.beside c.requires.leaf finer c.requires.tame))),
     )
 
-pub returns-in-Some-clause-summed : goal.returns-in-Some-clause-summed
-returns-in-Some-clause-summed g c =
+pub returns-in-Some : goal.returns-in-Some
+returns-in-Some g c =
     let w = c.args.world.now in
     let valid : Valid w.told.grid = subst Valid c.tree-tree.ensures (known c.tree-tree.result.now).valid in
     let finer = finer_told _ w.told.grid c.args.axis c.args.high c.args.node c.in-Some.beside c.at.result c.tree-tree.ensures c.at.ensures.value c.in-Some.ensures in
-    summed g.row.N g.row.G w c.take_sums.new.world valid c.args.node c.args.axis c.args.high c.in-Some.beside c.requires.leaf finer c.take_sums.ensures c.requires.tame
-
-pub returns-in-Some-clause-side : goal.returns-in-Some-clause-side
-returns-in-Some-clause-side g c =
-    let w = c.args.world.now in
-    let valid : Valid w.told.grid = subst Valid c.tree-tree.ensures (known c.tree-tree.result.now).valid in
-    let finer = finer_told _ w.told.grid c.args.axis c.args.high c.args.node c.in-Some.beside c.at.result c.tree-tree.ensures c.at.ensures.value c.in-Some.ensures in
-    side_summed g.row.N g.row.G w c.take_sums.new.world valid c.args.node c.args.axis c.args.high c.in-Some.beside c.requires.leaf finer c.take_sums.ensures c.requires.tame
+    record {
+      summed = summed g.row.N g.row.G w c.take_sums.new.world valid c.args.node c.args.axis c.args.high c.in-Some.beside c.requires.leaf finer c.take_sums.ensures c.requires.tame;
+      side = side_summed g.row.N g.row.G w c.take_sums.new.world valid c.args.node c.args.axis c.args.high c.in-Some.beside c.requires.leaf finer c.take_sums.ensures c.requires.tame;
+    }

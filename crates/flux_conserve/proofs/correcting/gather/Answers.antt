@@ -48,23 +48,19 @@ loop-quarter-preserved g c =
       ];
     }
 
-pub returns-clause-sums : goal.returns-clause-sums
-returns-clause-sums g c faces near s t hs ht =
+pub returns : goal.returns
+returns g c =
     let n = g.row.N in
     let half = n / 2 in
     let w = c.args.world.now in
     let valid : Valid w.told.grid = subst Valid c.tree-tree.ensures (known c.tree-tree.result.now).valid in
     let size = (sizes n g.row.G w.told.grid.shape c.requires.fit.sizes valid.shape).cells in
-    let less = quarter_less n s t size hs ht in
-    c.loop-quarter.invariant.sums faces near (quarter_at n s t) (s % half + half * (t % half)) (omega arith) (rest_less n s t size hs ht)
-    ∙ ap₂ (λ u v. quarter_sum n faces c.args.axis c.args.high (block_at w.told.grid c.args.beside) (quarter_at n s t) u v) (rest_first n s t size hs ht) (rest_second n s t size hs ht)
-
-pub returns-clause-within : goal.returns-clause-within
-returns-clause-within g c s t hs ht =
-    let n = g.row.N in
-    let half = n / 2 in
-    let w = c.args.world.now in
-    let valid : Valid w.told.grid = subst Valid c.tree-tree.ensures (known c.tree-tree.result.now).valid in
-    let size = (sizes n g.row.G w.told.grid.shape c.requires.fit.sizes valid.shape).cells in
-    let less = quarter_less n s t size hs ht in
-    c.loop-quarter.invariant.within (quarter_at n s t) (s % half + half * (t % half)) (omega arith) (rest_less n s t size hs ht)
+    record {
+      sums = λ faces near s t hs ht.
+          let less = quarter_less n s t size hs ht in
+          c.loop-quarter.invariant.sums faces near (quarter_at n s t) (s % half + half * (t % half)) (omega arith) (rest_less n s t size hs ht)
+          ∙ ap₂ (λ u v. quarter_sum n faces c.args.axis c.args.high (block_at w.told.grid c.args.beside) (quarter_at n s t) u v) (rest_first n s t size hs ht) (rest_second n s t size hs ht);
+      within = λ s t hs ht.
+          let less = quarter_less n s t size hs ht in
+          c.loop-quarter.invariant.within (quarter_at n s t) (s % half + half * (t % half)) (omega arith) (rest_less n s t size hs ht);
+    }
