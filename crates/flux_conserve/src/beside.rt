@@ -5,8 +5,9 @@ ghost use Rattle.block_tree.specs.Numbered.{IsNode, block_at};
 ghost use Rattle.flux_conserve.specs.Jumps as jumps;
 ghost use Rattle.flux_conserve.specs.Work.{IsFinerNode};
 ghost use Rattle.mesh_model.specs.Geometry.Blocks.{InDomain};
+ghost use Rattle.mesh_model.specs.Geometry.Coordinates as coordinates;
 ghost use Rattle.mesh_model.specs.Geometry.Limits.{IsShape};
-ghost use Rattle.std.specs.Prelude.{◌≡◌, ◌<◌, ◌≤◌, MatchOption, None};
+ghost use Rattle.std.specs.Prelude.{◌≡◌, ◌*◌, ◌^◌, ◌<◌, ◌≤◌, MatchOption, None};
 
 use amr_num::{Axis, BlockAt};
 use block_tree::Tree;
@@ -70,6 +71,3 @@ pub(crate) fn finer_beside(tree: &Tree, axis: Axis, high: bool, b: BlockAt) -> O
     let node = tree.node_at(block)?;
     if tree.is_leaf(node) { None } else { Some(node) }
 }
-
-ghost use Rattle.mesh_model.specs.Geometry.Coordinates as coordinates;
-ghost use Rattle.std.specs.Prelude.{◌*◌, ◌^◌};

@@ -1,6 +1,7 @@
 //! The work faces of leaves at jumps of level.
 
 ghost use Rattle.amr_num.specs.Numbers.{Within, at};
+ghost use Rattle.amr_num.specs.declared.Axis.{Axis as Axes};
 ghost use Rattle.amr_num.specs.declared.FaceAt.{FaceAt};
 ghost use Rattle.block_tree.specs.Numbered.{IsNode, block_at};
 ghost use Rattle.flux_conserve.specs.Jumps.{BlockFaces, corrected, four_finer, jumped, octant_on, quarter_sum, side_half, side_position};
@@ -182,7 +183,8 @@ fn correct_node<const N: usize, const G: usize>(world: &mut World<N, G>, node: u
 }
 
 /// Gives each work face of a leaf beside finer leaves the sum of the four finer work faces there, wrapped on a periodic
-/// axis, so that what finer leaves lose through a side their coarser neighbour gains. All other numbers stay.
+/// axis, so that what finer leaves lose through a side their coarser neighbour gains. All other faces of blocks, and all
+/// other arrays, stay.
 pub fn correct<const N: usize, const G: usize>(world: &mut World<N, G>)
     requires fit { IsFit N G world.old }
     requires small { WorkWithin world.old (2 ^ 56) }
@@ -196,5 +198,3 @@ pub fn correct<const N: usize, const G: usize>(world: &mut World<N, G>)
         correct_node(world, node);
     }
 }
-
-ghost use Rattle.amr_num.specs.declared.Axis.{Axis as Axes};
