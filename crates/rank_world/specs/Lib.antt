@@ -4,5 +4,6 @@ pub mod Writing
 pub mod Knowing
 pub mod Slots
 pub mod Starting
+pub mod Puts
 pub mod RankLends
 pub mod WorldLends

@@ -3,3 +3,4 @@ pub mod Moved
 pub mod Regridded
 pub mod Steps
 pub mod Stops
+pub mod Puts

@@ -9,3 +9,6 @@ mod moving;
 mod regridding;
 
 pub use regridding::{RegridStop, regrid};
+
+#[cfg(test)]
+mod tests;
