@@ -8,9 +8,9 @@ ghost use Rattle.rank_world.specs.Holding.{IsLeafNode, LeavesHold, OnlyCells};
 ghost use Rattle.regrid_move.specs.Near.{LeavesMoved, MayMove, MayMoveAll, NodeMoved, all_stop, block_stop, node_stop, variable_stop, IsNear};
 ghost use Rattle.std.specs.Prelude.{◌≡◌, ◌<◌, ◌≤◌, ◌+◌, ◌*◌, ℕ, ℤ, None};
 
-use crate::above::{Above, block_above};
 use crate::leaves::move_leaf;
 use amr_num::{BlockAt, CellAt};
+use block_store::{Above, block_above};
 use mesh_model::{Group, RangeStop, Spot, Var};
 use rank_world::World;
 

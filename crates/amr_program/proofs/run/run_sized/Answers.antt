@@ -5,7 +5,7 @@ use Rattle.amr_engine.specs.Plain.{declared_of, plain}
 use Rattle.amr_engine.specs.Stopping.{Written, stopped_by}
 use Rattle.amr_program.specs.Outcome.{Stopped}
 use Rattle.amr_program.proofs.Commands.{at_start, built_lines, built_mesh, built_names, came_done_from, came_stopped, roots_of, starved_first}
-use Rattle.amr_program.proofs.run.run_script.Goals as goal
+use Rattle.amr_program.proofs.run.run_sized.Goals as goal
 
 pub returns-in-Err-clause-came : goal.returns-in-Err-clause-came
 returns-in-Err-clause-came g c = starved_first _ _ _ c.end.ensures
