@@ -16,3 +16,8 @@ pub mod Started
 pub mod Regions
 pub mod Named
 pub mod Printed
+pub mod Kept
+pub mod Blown
+pub mod Advected
+pub mod Stepped
+pub mod Advanced

@@ -1,6 +1,6 @@
 -- What the operations of an engine make of its mesh.
-use Rattle.std.proofs.Common.{◌≡◌, ◌≢◌, ℕ, ◌<◌, ◌≤◌, ◌^◌, Bool, true, false, ◌==◌, List, [], Option, None, Some, length, get_or, ℤ, pos, refl, sym, ap, ap₂, subst, ◌∙◌, arith, inl, inr, eq-eqb, eqb-true}
-use Rattle.std.specs.Prelude.{if◌then◌else◌, ◌&&◌, ◌||◌, nat_lt, not}
+use Rattle.std.proofs.Common.{◌≡◌, ◌≢◌, ℕ, ◌<◌, ◌≤◌, ◌^◌, Bool, true, false, ◌==◌, List, [], Option, None, Some, Result, Ok, Err, IsErr, IfErr, OnErr, OnOk, length, get_or, ℤ, pos, refl, sym, ap, ap₂, subst, ◌∙◌, arith, inl, inr, eq-eqb, eqb-true}
+use Rattle.std.specs.Prelude.{◌↔◌, if◌then◌else◌, ◌&&◌, ◌||◌, nat_lt, not}
 use Rattle.std.specs.Option.{option_map, option_or}
 use Rattle.std.proofs.lemmas.Bool.{cases_Bool, le-leb}
 use Rattle.std.proofs.lemmas.List.{get_or_default}
@@ -23,7 +23,7 @@ use Rattle.mesh_model.specs.Fields.Totals.{total}
 use Rattle.mesh_model.specs.Run.Texts.{group_name}
 use Rattle.mesh_model.specs.declared.fields.values.Group.TheVariants as groups
 use Rattle.mesh_model.specs.Geometry.Limits.{most_nodes}
-use Rattle.mesh_model.specs.Language.Commands.{IsLeafNumber, IsPlace}
+use Rattle.mesh_model.specs.Language.Commands.{IsCommandOf, IsLeafNumber}
 use Rattle.mesh_model.specs.Run.Runs.{declared_in, mesh_after}
 use Rattle.mesh_model.specs.Run.Stops.{refusal}
 use Rattle.mesh_model.specs.Tree.Kinds.{Grid, is_leaf_block}
@@ -40,8 +40,12 @@ use Rattle.mesh_model.proofs.RunLemmas.RunValid.{keeps_validity}
 use Rattle.rank_world.specs.Holding.{IsLeafNode, IsOfMesh, LeavesHold}
 use Rattle.rank_world.specs.Holding.{OnlyCells}
 use Rattle.regrid_move.specs.Regrids.{AreOfMesh, IsPlanOf, IsRegridStop, IsRegridded}
-use Rattle.amr_engine.specs.Stopping.{MayStop, cause_of_regrid, stopped_by}
-use Rattle.amr_engine.proofs.Marks.{too_many}
+use Rattle.amr_engine.specs.Stopping.{Changes, MayStop, cause_of_regrid, stopped_by}
+use Rattle.amr_engine.specs.declared.cause.Cause.{Cause}
+use Rattle.amr_engine.specs.declared.cause.Cause.TheVariants as causes
+use Rattle.mesh_model.specs.declared.run.stops.LevelStop.{LevelStop}
+use Rattle.refine_marks.specs.Flags.{AddsBlock, IsSameSet}
+use Rattle.amr_engine.proofs.Marks.{derefine_set, refine_set, too_coarse, too_fine, too_many}
 use Rattle.amr_engine.specs.Filling.{AreLeavesFilled}
 use Rattle.amr_engine.specs.EngineMesh.{IsLaidOut, mesh_of}
 use Rattle.amr_engine.specs.MarkedWhere.{IsMarkedWhere, marked_where, number_of, passes}
@@ -60,6 +64,11 @@ same_cell v w e = cc
 three_tests : (p q r : Bool) → (p && (q && r)) ≡ (p && q && r)
 three_tests true q r = refl
 three_tests false q r = refl
+
+-- a limit of levels, as a cause
+abbrev pub at_limit : Result (Unit {0}) LevelStop → Result (Unit {0}) Cause
+at_limit (Ok done) = Ok done
+at_limit (Err stop) = Err (causes.Level stop)
 
 apart : (v var : ℕ) → (v == var) ≡ false → v ≢ var
 apart v var other e = absurd (let t = eq-eqb v var e in cc)
@@ -227,11 +236,30 @@ module _ (names : VariableNames) (w : WorldState) (outs : List ℤ) (marks : Mar
       remarked new (mark_derefine now at).refine (mark_derefine now at).derefine
       (λ b. ap (λ h. refine_of h new b) (sym is) ∙ sym (has.refine b)) (λ b. ap (λ h. derefine_of h new b) (sym is) ∙ sym (has.derefine b))
 
-  pub refine_valid : (at : BlockAt) → IsPlace at → refusal now (MarkRefine at) ≡ None → ValidMesh (mark_refine now at)
-  refine_valid at place none = keeps_validity now (MarkRefine at) valid place none
+  -- a command that changes a valid mesh, or leaves it, leaves a valid one
+  pub changes_valid : (result : Result (Unit {0}) Cause) (command : Command) (after : Mesh) → IsCommandOf (declared_in now) command → Changes result now command after → ValidMesh after
+  changes_valid (Ok done) command after fits changes = subst ValidMesh (sym changes.1) (keeps_validity now command valid fits changes.0)
+  changes_valid (Err cause) command after fits changes = subst ValidMesh (sym changes.1) valid
 
-  pub derefine_valid : (at : BlockAt) → IsPlace at → refusal now (MarkDerefine at) ≡ None → ValidMesh (mark_derefine now at)
-  derefine_valid at place none = keeps_validity now (MarkDerefine at) valid place none
+  -- one more leaf is marked, or the limit of levels is told
+  module _ (t : Tree) (at : BlockAt) (new : Marks) (is : grid_of t ≡ w.told.grid) (leaf : is_leaf_block (grid_of t) at ≡ true) (are : IsMarksOf (grid_of t) new) where
+    pub refine_changes : (result : Result (Unit {0}) LevelStop) → IsErr result ↔ (at.level ≡ (grid_of t).shape.max) →
+        IfErr result (λ stop. stop ≡ record { level = at.level; limit = (grid_of t).shape.max }) →
+        OnOk result (AddsBlock at (refine_of (grid_of t) marks) (refine_of (grid_of t) new)) → IsSameSet (derefine_of (grid_of t) marks) (derefine_of (grid_of t) new) → OnErr result (new ≡ marks) →
+        Changes (at_limit result) now (MarkRefine at) (mesh_of names w outs new)
+    refine_changes (Ok done) refused stop adds same stays =
+        let set = refine_set now t marks at (has_marks t is) leaf new are adds same in
+        (set.0, refine_is t at new is set.1)
+    refine_changes (Err stop) refused told adds same stays = (too_fine now t marks at (has_marks t is) leaf stop (refused.0 refl) told, ap (mesh_of names w outs) stays)
+
+    pub derefine_changes : (result : Result (Unit {0}) LevelStop) → IsErr result ↔ (at.level ≤ (grid_of t).shape.min) →
+        IfErr result (λ stop. stop ≡ record { level = at.level; limit = (grid_of t).shape.min }) →
+        OnOk result (AddsBlock at (derefine_of (grid_of t) marks) (derefine_of (grid_of t) new)) → IsSameSet (refine_of (grid_of t) marks) (refine_of (grid_of t) new) → OnErr result (new ≡ marks) →
+        Changes (at_limit result) now (MarkDerefine at) (mesh_of names w outs new)
+    derefine_changes (Ok done) refused stop adds same stays =
+        let set = derefine_set now t marks at (has_marks t is) leaf new are adds same in
+        (set.0, derefine_is t at new is set.1)
+    derefine_changes (Err stop) refused told adds same stays = (too_coarse now t marks at (has_marks t is) leaf stop (refused.0 refl) told, ap (mesh_of names w outs) stays)
 
   -- leaves are marked by what they contain
   module _ (var : ℕ) (there : var < length names.cells) (new : Marks) where

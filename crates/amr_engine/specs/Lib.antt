@@ -7,3 +7,6 @@ pub mod EngineMesh
 pub mod Plain
 pub mod Stopping
 pub mod Built
+pub mod Flowing
+pub mod Settling
+pub mod Stepping

@@ -17,6 +17,7 @@ fn is_built_command(declared: &Declared, command: Command) -> bool
         Command::RefineWhere { .. } => true,
         Command::DerefineWhere { .. } => true,
         Command::Regrid => true,
+        Command::Advect { .. } => true,
         Command::PrintSize => true,
         Command::PrintMesh => true,
         Command::PrintTree => true,

@@ -1,5 +1,6 @@
 //! The mesh of a run, and each command on it.
 
+use crate::advection::step;
 use crate::cause::{Cause, Stop};
 use crate::filling::fill_leaves;
 use crate::marking::{Where, mark_where};
@@ -76,7 +77,7 @@ impl<const N: usize, const G: usize> Engine<N, G> {
     ghost use Rattle.mesh_model.specs.Run.Stops.{refusal};
     ghost use Rattle.mesh_model.specs.Run.Texts.{total_text, variable_text};
     ghost use Rattle.outside_io.specs.Moved.{Takes};
-    ghost use Rattle.std.specs.Prelude.{◌≤◌, true, IfErr, IfOk, None, OnErr, OnOk, length};
+    ghost use Rattle.std.specs.Prelude.{◌≤◌, ◌^◌, true, IfErr, IfOk, None, OnErr, OnOk, length};
 
     /// The start mesh of what was declared: all contents 0. `N` and `G` are the shape's.
     pub fn new(alloc: Global, declared: Declared) -> Result<Engine<N, G>, OutOfMemory>
@@ -195,6 +196,7 @@ impl<const N: usize, const G: usize> Engine<N, G> {
                 Ok(())
             }
             Command::Regrid => self.regrid(),
+            Command::Advect { var, speeds } => self.advect(var, speeds),
             Command::PrintSize => written(print_size(sink, self.world.tree())),
             Command::PrintMesh => written(print_mesh(sink, self.world.tree())),
             Command::PrintTree => written(print_tree(sink, self.world.tree())),
@@ -272,6 +274,23 @@ impl<const N: usize, const G: usize> Engine<N, G> {
                 Ok(())
             }
             Err(stop) => Err(Cause::of_regrid(stop)),
+        }
+    }
+
+    /// Makes one step of the variable.
+    fn advect(&mut self, var: u32, speeds: [i64; 3]) -> Result<(), Cause>
+        requires variable { IsCellVariable (declared_of self.old).names var }
+        requires speeds { AreThree (2 ^ 20) speeds }
+        ensures changes { Changes result (plain self.old) (Command.Advect var speeds) (plain self.new) }
+        ensures declared { declared_of self.new ≡ declared_of self.old }
+    {
+        let out = self.outs[var as usize];
+        match step(&mut self.world, var, speeds, out) {
+            Ok(out) => {
+                self.outs[var as usize] = out;
+                Ok(())
+            }
+            Err(hindrance) => Err(Cause::of_advect(var, speeds, hindrance)),
         }
     }
 

@@ -3,13 +3,16 @@
 
 pub mod built;
 pub mod cause;
+mod advection;
 mod cells;
 pub mod engine;
 mod filling;
+mod flowing;
 mod hindrance;
 pub mod laws;
 mod marking;
 mod region;
+mod settling;
 mod totals;
 
 pub use mesh_model::Group;
