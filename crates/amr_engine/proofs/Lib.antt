@@ -3,6 +3,7 @@ pub mod Blocks
 pub mod Machine
 pub mod Rows
 pub mod Filled
+pub mod Flown
 pub mod Found
 pub mod Marked
 pub mod Summed

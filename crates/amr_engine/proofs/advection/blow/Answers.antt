@@ -23,7 +23,7 @@ flow-requires g c =
       omega arith,
       (c.fill.ensures.fit,
       (subst (λ (t : Told). c.args.v < t.counts.cells) (sym told) c.requires.variable,
-      (record { content = content; guards = guards; small = mesh.valid.range.cells c.args.v },
+      (record { content = content; guarded = guards; small = mesh.valid.range.cells c.args.v },
       (c.requires.speeds,
       subst (λ (t : Told). stepping.keeps_courant t.grid.shape (three c.args.speeds) ≡ true) (sym told) c.requires.courant)))),
     )
