@@ -20,5 +20,7 @@ pub mod Printed
 pub mod Kept
 pub mod Blown
 pub mod Advected
+pub mod StepMade
+pub mod Settled
 pub mod Stepped
 pub mod Advanced

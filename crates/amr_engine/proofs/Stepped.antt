@@ -1,85 +1,174 @@
--- What a step found and made, in the mesh's words.
-use Rattle.std.proofs.Common.{◌≡◌, ℕ, ◌+◌, ◌^◌, ◌<◌, ◌≤◌, ◌==◌, true, false, List, Option, Some, None, find, ℤ, ◌+ℤ◌, refl, sym, ap, ap₂, subst, ◌∙◌, arith, inl, inr, eqb-true}
-use Rattle.std.proofs.lemmas.Bool.{cases_Bool, le-ltb, lt-ltb}
-use Rattle.std.specs.Prelude.{if◌then◌else◌, unsigned_abs}
-use Rattle.amr_num.specs.Numbers.{Within, number_range}
+-- The arrays of a leaf before and after a step.
+use Rattle.std.proofs.Common.{◌≡◌, ℕ, ◌+◌, ◌*◌, ◌^◌, ◌<◌, ◌≤◌, Bool, true, false, List, ℤ, pos, ◌+ℤ◌, Option, Some, None, refl, sym, ap, subst, ◌∙◌, arith, inl, inr}
+use Rattle.std.specs.Prelude.{if◌then◌else◌}
+use Rattle.std.specs.Option.{option_map}
+use Rattle.amr_num.specs.Numbers.{Within}
+use Rattle.amr_num.specs.declared.Axis.{Axis}
+use Rattle.amr_num.specs.declared.Axis.TheVariants.{X, Y, Z}
+use Rattle.amr_num.specs.declared.BlockAt.{BlockAt}
 use Rattle.amr_num.specs.declared.CellAt.{CellAt}
-use Rattle.amr_num.proofs.Sizes.{within_add}
-use Rattle.flux_conserve.specs.Work.{WorkHolds}
-use Rattle.mesh_model.specs.Fields.Advect.{Speeds, advect, advected, flux, outflow, three}
-use Rattle.mesh_model.specs.Fields.Plain.{Mesh}
-use Rattle.mesh_model.specs.Fields.RangeWalk.{cells_walked, is_above}
-use Rattle.mesh_model.specs.Fields.Ranks.{Told, WorldState}
-use Rattle.mesh_model.specs.Fields.Valid.{ValidMesh}
+use Rattle.amr_num.proofs.Sizes.{sum_within, within_add, within_less}
+use Rattle.block_store.specs.Above.{first_in_block}
+use Rattle.block_store.specs.declared.above.Above as stores
+use Rattle.block_tree.specs.Numbered.{block_at}
+use Rattle.mesh_model.specs.Fields.Advect.{Speeds, advected}
+use Rattle.mesh_model.specs.Fields.ArrayPlaces.{IsSize, cell_extents, face_extents, number_at}
+use Rattle.mesh_model.specs.Fields.Octants.{cells_of}
+use Rattle.mesh_model.specs.Fields.Ranks.{IsSized, WorldState}
+use Rattle.mesh_model.specs.Fields.Totals.{block_sum}
+use Rattle.mesh_model.specs.Geometry.Places.{in_block}
 use Rattle.mesh_model.specs.Tree.Kinds.{Grid}
-use Rattle.rank_world.specs.Holding.{IsLeafNode, IsOfMesh, LeavesHold, OnlyCells}
-use Rattle.amr_engine.specs.Settling.{AreFluxed, OnlyWorkCells, WorkCellsHold}
-use Rattle.amr_engine.specs.Stepping.{KeepsMeshes, content_after, first_above}
+use Rattle.mesh_model.specs.Tree.ValidGrid.{Valid}
+use Rattle.mesh_model.specs.declared.geometry.Shape.{Shape}
+use Rattle.rank_world.specs.Holding.{IsLeafNode, cell_array}
+use Rattle.flux_conserve.specs.Work.{work_array}
+use Rattle.regrid_move.proofs.Stops.{inside_of}
+use Rattle.step_advect.specs.Applied.{AreInRange, Flows, IsApplied, face_on, first_out, flows_in, inner, is_chosen, left_at, out_along, out_through, side_sum}
+use Rattle.step_advect.specs.Fluxed.{AreFacesWithin}
+use Rattle.step_advect.specs.Lifts.{AreOuterSides, HoldsFlows, first_above}
+use Rattle.step_advect.specs.declared.update.RangeAt.{RangeAt}
+use Rattle.step_advect.proofs.Nets.{left_advected}
+use Rattle.step_advect.proofs.OuterSides.{all_lost}
+use Rattle.step_advect.proofs.Ranges.{first_told, told}
+use Rattle.step_advect.proofs.Refusals.{none_refused, refused_first}
+use Rattle.amr_engine.specs.Settling.{AreFluxed, HoldsContents, IsLost, IsRefused, MaySettle, flows_at, lost, node_above}
 use Rattle.amr_engine.specs.declared.hindrance.Above.{Above}
-use Rattle.amr_engine.proofs.Kept.{meshes_kept, others_kept, work_kept}
-use Rattle.amr_engine.proofs.Machine.{kept_128, wide}
 
--- what had flowed out and what flows out, as the machine adds them
-pub flown_told : (out flown : ℤ) → Within (2 ^ 100) out → Within (2 ^ 90) flown → kept_128 (kept_128 out +ℤ kept_128 flown) ≡ out +ℤ flown
-flown_told out flown ho hf =
-    ap₂ (λ x y. kept_128 (x +ℤ y)) (wide out (2 ^ 100) ho (omega arith)) (wide flown (2 ^ 90) hf (omega arith))
-    ∙ wide (out +ℤ flown) (2 ^ 100 + 2 ^ 90) (within_add (2 ^ 100) (2 ^ 90) out flown ho hf) (omega arith)
+-- what holds in the grid's sizes holds in those of the code
+pub in_sizes : (P : ℕ → ℕ → Type 0) (n e : ℕ) (s : Shape) → IsSized n e s → P s.n s.g → P n e
+in_sizes P n e s sized p = subst (λ m. P m e) sized.cells (subst (P s.n) sized.guards p)
 
--- a number that is above a limit, and one that is not
-pub is_far : (most : ℕ) (z : ℤ) → most < unsigned_abs z → is_above most z ≡ true
-is_far most z h = lt-ltb most (unsigned_abs z) h
+pub in_shape : (P : ℕ → ℕ → Type 0) (n e : ℕ) (s : Shape) → IsSized n e s → P n e → P s.n s.g
+in_shape P n e s sized p = subst (λ m. P m s.g) (sym sized.cells) (subst (P n) (sym sized.guards) p)
 
-pub is_near : (most : ℕ) (z : ℤ) → unsigned_abs z ≤ most → is_above most z ≡ false
-is_near most z h = le-ltb most (unsigned_abs z) h
+module _ (n e : ℕ) (w : WorldState) (v node : ℕ) where
+  -- a leaf's numbers are small
+  pub range_of : MaySettle n e w v → IsLeafNode w.told.grid node → AreInRange n (inner e (number_at (cell_extents n e) (cell_array w v node)))
+  range_of may leaf =
+      let s = w.told.grid.shape in
+      let here : AreInRange s.n (inner s.g (number_at (cell_extents s.n s.g) (cell_array w v node))) = record { at = (may.range v node may.variable leaf).cells } in
+      in_sizes (λ m d. AreInRange m (inner d (number_at (cell_extents m d) (cell_array w v node)))) n e s may.fit.sizes here
 
-module _ (old blown : WorldState) (v : ℕ) (speeds : List ℤ) (m : Mesh) (of : IsOfMesh old m) (there : v < old.told.counts.cells) (told : blown.told ≡ old.told)
-    (meshes : KeepsMeshes old blown) (flows : (content : CellAt → ℤ) → LeavesHold old v content → WorkHolds blown (flux old.told.grid content (three speeds))) where
-  below : v < blown.told.counts.cells
-  below = subst (λ (t : Told). v < t.counts.cells) (sym told) there
+  pub faces_of : (a : Axis) → MaySettle n e w v → IsLeafNode w.told.grid node → AreFacesWithin (2 ^ 58) n e a (number_at (face_extents n e a) (work_array w a node))
+  faces_of a may leaf =
+      let s = w.told.grid.shape in
+      let here : AreFacesWithin (2 ^ 58) s.n s.g a (number_at (face_extents s.n s.g a) (work_array w a node)) = record { at = (may.small node a leaf).at } in
+      in_sizes (λ m d. AreFacesWithin (2 ^ 58) m d a (number_at (face_extents m d a) (work_array w a node))) n e s may.fit.sizes here
 
-  grid_is : blown.told.grid ≡ m.grid
-  grid_is = (meshes m of).grid
+  -- arrays that are lent are the node's
+  pub in_flows : (P : Flows → Type 0) (cells fx fy fz : List ℤ) → cells ≡ cell_array w v node → fx ≡ work_array w X node → fy ≡ work_array w Y node → fz ≡ work_array w Z node →
+      P (flows_in n e cells fx fy fz) → P (flows_at n e w v node)
+  in_flows P cells fx fy fz is_cells is_x is_y is_z p =
+      let ys = work_array w Y node in
+      let xs = work_array w X node in
+      subst (λ u. P (flows_in n e u xs ys (work_array w Z node))) is_cells
+      (subst (λ u. P (flows_in n e cells u ys (work_array w Z node))) is_x
+      (subst (λ u. P (flows_in n e cells fx u (work_array w Z node))) is_y
+      (subst (λ u. P (flows_in n e cells fx fy u)) is_z p)))
 
-  pub are_fluxed : AreFluxed blown v (m.cells v) (three speeds)
-  are_fluxed = record {
-    holds = (meshes m of).contents v below;
-    flows = subst (λ (t : Told). WorkHolds blown (flux t.grid (m.cells v) (three speeds))) (sym told) (flows (m.cells v) (of.contents v there));
+-- ---- what a step makes of a leaf
+
+module _ (n e : ℕ) (w : WorldState) (v node : ℕ) (content : CellAt → ℤ) (speeds : Speeds) (valid : Valid w.told.grid) (sized : IsSized n e w.told.grid.shape)
+    (leaf : IsLeafNode w.told.grid node) (are : AreFluxed w v content speeds) where
+  abbrev grid : Grid
+  grid = w.told.grid
+
+  abbrev block : BlockAt
+  block = block_at w.told.grid node
+
+  flows_held : HoldsFlows grid content speeds block (cell_array w v node) (work_array w X node) (work_array w Y node) (work_array w Z node)
+  flows_held = record {
+    leaf = leaf.leaf;
+    views = are.cells node leaf;
+    along_x = are.faces node X leaf;
+    along_y = are.faces node Y leaf;
+    along_z = are.faces node Z leaf;
   }
 
-  -- the first out of range, or none
-  pub found_is : (o : Option CellAt) → find (λ c. is_above number_range (advected blown.told.grid (m.cells v) (three speeds) c)) (cells_walked blown.told.grid) ≡ o → first_above m v speeds ≡ o
-  found_is o found = subst (λ h. find (λ c. is_above number_range (advected h (m.cells v) (three speeds) c)) (cells_walked h) ≡ o) grid_is found
-
-  pub content_is : (c : CellAt) → advected blown.told.grid (m.cells v) (three speeds) c ≡ content_after m v speeds c
-  content_is c = ap (λ h. advected h (m.cells v) (three speeds) c) grid_is
-
-  pub flown_is : outflow blown.told.grid (m.cells v) (three speeds) ≡ outflow m.grid (m.cells v) (three speeds)
-  flown_is = ap (λ h. outflow h (m.cells v) (three speeds)) grid_is
-
-  module _ (settled : WorldState) (work : OnlyWorkCells blown settled) where
-    -- contents stay until they are taken over
-    pub still_of : IsOfMesh settled m
-    still_of = meshes_kept blown settled work.told (work_kept blown settled work) m (meshes m of)
-
-    module _ (taken : WorldState) (only : OnlyCells settled taken v) (made : WorkCellsHold settled (advected blown.told.grid (m.cells v) (three speeds)))
-        (holds : (content : CellAt → ℤ) → WorkCellsHold settled content → LeavesHold taken v content) where
-      new_holds : (u : ℕ) → u < taken.told.counts.cells → LeavesHold taken u ((advect m v (three speeds)).cells u)
-      new_holds u inside = elim (cases_Bool (u == v)) [
-        | inl same ↦ (
-            let e = eqb-true u v same in
-            let here : LeavesHold taken v (content_after m v speeds) = subst (λ h. LeavesHold taken v (advected h (m.cells v) (three speeds))) grid_is (holds (advected blown.told.grid (m.cells v) (three speeds)) made) in
-            subst (λ t. LeavesHold taken u (if t then content_after m u speeds else m.cells u)) (sym same) (subst (λ x. LeavesHold taken x (content_after m x speeds)) (sym e) here))
-        | inr other ↦
-            subst (λ t. LeavesHold taken u (if t then content_after m u speeds else m.cells u)) (sym other)
-            (λ node leaf. others_kept settled taken v u node (m.cells u) only other
-            (still_of.contents u (subst (λ (t : Told). u < t.counts.cells) only.told inside) node (subst (λ (t : Told). IsLeafNode t.grid node) only.told leaf)))
-      ]
-
-      pub new_of : IsOfMesh taken (advect m v (three speeds))
-      new_of = record {
-        grid = ap (λ (t : Told). t.grid) only.told ∙ still_of.grid;
-        cells = ap (λ (t : Told). t.counts.cells) only.told ∙ still_of.cells;
-        faces = (λ zero. still_of.faces.0 (sym (ap (λ (t : Told). t.counts.faces) only.told) ∙ zero), λ none. ap (λ (t : Told). t.counts.faces) only.told ∙ still_of.faces.1 none);
-        edges = (λ zero. still_of.edges.0 (sym (ap (λ (t : Told). t.counts.edges) only.told) ∙ zero), λ none. ap (λ (t : Told). t.counts.edges) only.told ∙ still_of.edges.1 none);
-        contents = new_holds;
+  pub leaf_made : (old new : List ℤ) → IsApplied n e (flows_at n e w v node) old new → HoldsContents grid (advected grid content speeds) block (cells_of grid new)
+  leaf_made old new applied =
+      let is = in_shape (λ m d. IsApplied m d (flows_at m d w v node) old new) n e grid.shape sized applied in
+      record {
+        at = λ i j k hi hj hk.
+            is.written i j k hi hj hk
+            ∙ left_advected grid content speeds block (cell_array w v node) (work_array w X node) (work_array w Y node) (work_array w Z node) valid flows_held i j k hi hj hk;
       }
+
+  pub leaf_lost : (sides : List Bool) (flown : ℤ) → AreOuterSides grid.shape block sides → flown ≡ out_through n (flows_at n e w v node) sides → IsLost w content speeds node flown
+  leaf_lost sides flown outer is =
+      let here : flown ≡ out_through grid.shape.n (flows_at grid.shape.n grid.shape.g w v node) sides =
+      in_shape (λ m d. flown ≡ out_through m (flows_at m d w v node) sides) n e grid.shape sized is in
+      here
+      ∙ all_lost grid block sides valid leaf.leaf outer content speeds (cell_array w v node) (work_array w X node) (work_array w Y node) (work_array w Z node) flows_held
+      ∙ sym (ap (λ t. if t then block_sum grid.shape.n (lost grid content speeds) block else pos 0) leaf.leaf)
+
+  pub leaf_none : AreInRange n (left_at (flows_at n e w v node)) → node_above grid content speeds node ≡ None
+  leaf_none within =
+      let here = in_shape (λ m d. AreInRange m (left_at (flows_at m d w v node))) n e grid.shape sized within in
+      ap (λ t. if t then first_above grid content speeds block else None) leaf.leaf
+      ∙ none_refused grid content speeds block (cell_array w v node) (work_array w X node) (work_array w Y node) (work_array w Z node) valid flows_held here
+
+  pub leaf_refused : (at : RangeAt) (above : Above) → first_out n (left_at (flows_at n e w v node)) ≡ Some at → above ≡ record { cell = in_block n block at.i at.j at.k; value = at.value } →
+      IsRefused grid content speeds (node_above grid content speeds node) above
+  leaf_refused at above is made =
+      let here = in_shape (λ m d. first_out m (left_at (flows_at m d w v node)) ≡ Some at) n e grid.shape sized is in
+      let first = refused_first grid content speeds block (cell_array w v node) (work_array w X node) (work_array w Y node) (work_array w Z node) valid flows_held at here in
+      let told : above ≡ record { cell = in_block grid.shape.n block at.i at.j at.k; value = at.value } =
+      subst (λ m. above ≡ record { cell = in_block m block at.i at.j at.k; value = at.value }) (sym sized.cells) made in
+      subst (IsRefused grid content speeds (node_above grid content speeds node)) (sym told) (record {
+        first_is = ap (λ t. if t then first_above grid content speeds block else None) leaf.leaf ∙ first.0;
+        value_is = first.1;
+      })
+
+-- the place that is refused lies in the block
+pub refused_inside : (n : ℕ) (left : ℕ → ℕ → ℕ → ℤ) (at : RangeAt) → first_out n left ≡ Some at → (at.i < n) × (at.j < n) × (at.k < n)
+refused_inside n left at is = inside (first_in_block left n) refl
+  where
+    inside : (found : Option stores.Above) → first_in_block left n ≡ found → (at.i < n) × (at.j < n) × (at.k < n)
+    inside None none = absurd (
+        let here = sym is ∙ first_told n left left (first_in_block left n) refl (λ i j k hi hj hk. refl) ∙ ap (option_map told) none in
+        cc)
+    inside (Some a) some =
+        let same : at ≡ told a = (let here = sym is ∙ first_told n left left (first_in_block left n) refl (λ i j k hi hj hk. refl) ∙ ap (option_map told) some in cc) in
+        subst (λ (r : RangeAt). (r.i < n) × (r.j < n) × (r.k < n)) (sym same) (inside_of left n a some)
+
+-- ---- how much flows out of a leaf
+
+face_small : (most n g : ℕ) (a : Axis) (faces : ℕ → ℕ → ℕ → ℤ) → AreFacesWithin most n g a faces → (p s t : ℕ) → p ≤ n → s < n → t < n → Within most (face_on a (inner g faces) p s t)
+face_small most n g X faces within p s t hp hs ht = within.at p s t (omega arith) hs ht
+face_small most n g Y faces within p s t hp hs ht = within.at s p t hs (omega arith) ht
+face_small most n g Z faces within p s t hp hs ht = within.at s t p hs ht (omega arith)
+
+side_small : (most n g : ℕ) (a : Axis) (faces : ℕ → ℕ → ℕ → ℤ) → AreFacesWithin most n g a faces → (p : ℕ) → p ≤ n → Within (n * (n * most)) (side_sum n a (inner g faces) p)
+side_small most n g a faces within p hp =
+    sum_within n (n * most) _ (λ t ht. sum_within n most _ (λ s hs. face_small most n g a faces within p s t hp hs ht))
+
+chosen_small : (most : ℕ) (t : Bool) (z : ℤ) → Within most z → Within most (if t then z else pos 0)
+chosen_small most true z within = within
+chosen_small most false z within = omega arith
+
+along_small : (most n g : ℕ) (a : Axis) (faces : ℕ → ℕ → ℕ → ℤ) (low high : Bool) → AreFacesWithin most n g a faces →
+    Within (n * (n * most) + n * (n * most)) (out_along n a (inner g faces) low high)
+along_small most n g a faces low high within =
+    within_less (n * (n * most)) (n * (n * most)) (if high then side_sum n a (inner g faces) n else pos 0) (if low then side_sum n a (inner g faces) 0 else pos 0)
+    (chosen_small (n * (n * most)) high (side_sum n a (inner g faces) n) (side_small most n g a faces within n (omega arith)))
+    (chosen_small (n * (n * most)) low (side_sum n a (inner g faces) 0) (side_small most n g a faces within 0 (omega arith)))
+
+pub out_small : (n e : ℕ) (w : WorldState) (v node : ℕ) (sides : List Bool) → IsSize n e → MaySettle n e w v → IsLeafNode w.told.grid node →
+    Within (2 ^ 70) (out_through n (flows_at n e w v node) sides)
+out_small n e w v node sides size may leaf =
+    let side = n * (n * 2 ^ 58) in
+    let few : side ≤ 2 ^ 64 = elim size.cells [
+      | inl is ↦ subst (λ m. m * (m * 2 ^ 58) ≤ 2 ^ 64) (sym is) (omega arith)
+      | inr is ↦ subst (λ m. m * (m * 2 ^ 58) ≤ 2 ^ 64) (sym is) (omega arith)
+    ] in
+    let f = flows_at n e w v node in
+    let x_out = out_along n X f.x (is_chosen sides 0) (is_chosen sides 1) in
+    let y_out = out_along n Y f.y (is_chosen sides 2) (is_chosen sides 3) in
+    let z_out = out_along n Z f.z (is_chosen sides 4) (is_chosen sides 5) in
+    let x = along_small (2 ^ 58) n e X (number_at (face_extents n e X) (work_array w X node)) (is_chosen sides 0) (is_chosen sides 1) (faces_of n e w v node X may leaf) in
+    let y = along_small (2 ^ 58) n e Y (number_at (face_extents n e Y) (work_array w Y node)) (is_chosen sides 2) (is_chosen sides 3) (faces_of n e w v node Y may leaf) in
+    let z = along_small (2 ^ 58) n e Z (number_at (face_extents n e Z) (work_array w Z node)) (is_chosen sides 4) (is_chosen sides 5) (faces_of n e w v node Z may leaf) in
+    let all : Within ((side + side) + (side + side) + (side + side)) (out_through n f sides) =
+    within_add ((side + side) + (side + side)) (side + side) (x_out +ℤ y_out) z_out (within_add (side + side) (side + side) x_out y_out x y) z in
+    omega (arith, all, few)

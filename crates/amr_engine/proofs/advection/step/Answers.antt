@@ -8,7 +8,7 @@ use Rattle.amr_engine.specs.Stepping.{IsCalm, out_after}
 use Rattle.amr_engine.proofs.Advected.{out_is}
 use Rattle.amr_engine.proofs.Machine.{kept_128}
 use Rattle.amr_engine.proofs.Ranged.{leaves_in_range}
-use Rattle.amr_engine.proofs.Stepped.{are_fluxed, content_is, flown_is, flown_told, found_is, is_far, is_near, new_of, still_of}
+use Rattle.amr_engine.proofs.StepMade.{are_fluxed, content_is, flown_is, flown_told, found_is, is_far, is_near, new_of, still_of}
 use Rattle.amr_engine.proofs.advection.step.Goals as goal
 
 pub settle-requires : goal.settle-requires
@@ -31,7 +31,7 @@ returns-in-Err-clause-steps g c m valid of out_of =
     let shape = c.shape.ensures.value ∙ ap (λ (h : Grid). h.shape) (c.tree.ensures ∙ of.grid) in
     let slow : stepping.keeps_courant m.grid.shape (three speeds) ≡ true = ap (λ s. stepping.keeps_courant s (three speeds)) (sym shape) ∙ sym c.keeps_courant.ensures ∙ c.if-not-keeps_courant.false in
     let stop = c.in-Err.ensures.stop (m.cells v) (three speeds) (are_fluxed old blown v speeds m of c.requires.variable c.blow.ensures.told c.blow.ensures.meshes c.blow.ensures.flows) in
-    (slow, found_is old blown v speeds m of c.requires.variable c.blow.ensures.told c.blow.ensures.meshes c.blow.ensures.flows (Some c.in-Err.above.cell) stop.0, stop.1 ∙ content_is old blown v speeds m of c.requires.variable c.blow.ensures.told c.blow.ensures.meshes c.blow.ensures.flows c.in-Err.above.cell, still_of old blown v speeds m of c.requires.variable c.blow.ensures.told c.blow.ensures.meshes c.blow.ensures.flows c.settle.new.world c.settle.ensures.only)
+    (slow, found_is old blown v speeds m of c.requires.variable c.blow.ensures.told c.blow.ensures.meshes c.blow.ensures.flows (Some c.in-Err.above.cell) stop.first_is, stop.value_is ∙ content_is old blown v speeds m of c.requires.variable c.blow.ensures.told c.blow.ensures.meshes c.blow.ensures.flows c.in-Err.above.cell, still_of old blown v speeds m of c.requires.variable c.blow.ensures.told c.blow.ensures.meshes c.blow.ensures.flows c.settle.new.world c.settle.ensures.only)
 
 pub returns-then-unsigned_abs-gt-MOST_OUT-clause-steps : goal.returns-then-unsigned_abs-gt-MOST_OUT-clause-steps
 returns-then-unsigned_abs-gt-MOST_OUT-clause-steps g c m valid of out_of =
