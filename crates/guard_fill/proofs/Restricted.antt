@@ -15,12 +15,14 @@ use Rattle.mesh_model.specs.Fields.Octants.{IsRestricted, OctantHolds, SumsAreSm
 use Rattle.mesh_model.specs.Fields.Ranks.{IsSized, OnlyOf, Told, WorldState}
 use Rattle.mesh_model.proofs.FieldLemmas.BlockOctants.{block_of_cell, eight_view, few_sized, octant_summed, other_octant, restricted_sized}
 use Rattle.mesh_model.specs.Fields.Laws.{leaf_cells}
+use Rattle.mesh_model.specs.Fields.Plain.{Mesh}
 use Rattle.mesh_model.specs.Fields.Views.{cell_view}
 use Rattle.mesh_model.proofs.FieldLemmas.Bounds.{split_view_within, wider}
 use Rattle.mesh_model.proofs.FieldLemmas.KeptValid.{leaf_cells_few}
 use Rattle.mesh_model.proofs.GeometryLemmas.Halves.{in_half}
 use Rattle.block_tree.specs.Numbered.{IsNumberOf, block_at}
-use Rattle.rank_world.specs.Holding.{IsOfValidMesh, NodeHolds, OnlyCells, cell_array}
+use Rattle.rank_world.specs.Holding.{IsLeafNode, IsOfMesh, IsOfValidMesh, LeavesHold, NodeHolds, OnlyCells, cell_array}
+use Rattle.rank_world.proofs.Meshes.{cells_keep_mesh}
 use Rattle.guard_fill.specs.Restricting.{HoldSmallField, OnlyParents, SplitViewsAreSmall}
 
 -- one more octant is summed
@@ -97,3 +99,13 @@ of_small_field w v of within =
           (λ c split. wider (cell_view m.grid (m.cells v) c) (2 ^ 40 * leaf_cells m.grid) (2 ^ 62)
           (split_view_within m.grid of.valid.grid (m.cells v) (2 ^ 40) (λ d leaf. of.valid.range.cells v d) c split) (leaf_cells_few m of.valid));
     }
+
+-- after nodes above the leaves were summed the leaves hold what they held, and the world is that of its mesh
+module _ (a b : WorldState) (v : ℕ) (only : OnlyParents a b v) where
+  pub leaves_stay : (content : CellAt → ℤ) → LeavesHold a v content → LeavesHold b v content
+  leaves_stay content holds node leaf =
+      let was : IsLeafNode a.told.grid node = subst (λ (t : Told). IsLeafNode t.grid node) only.only.told leaf in
+      node_along a b v content node only.only.told (only.leaves node was) (holds node was)
+
+  pub restricted_mesh : (m : Mesh) → IsOfMesh a m → IsOfMesh b m
+  restricted_mesh m of = cells_keep_mesh a b v m only.only leaves_stay of
