@@ -1,11 +1,12 @@
 -- The first number out of range, row by row and plane by plane.
-use Rattle.std.proofs.Common.{◌≡◌, ℕ, ◌+◌, ◌<◌, ◌^◌, true, false, List, length, ℤ, Option, Some, None, is_some, sym, ap, ◌∙◌}
+use Rattle.std.proofs.Common.{◌≡◌, ℕ, suc, ◌+◌, ◌<◌, ◌^◌, Bool, true, false, List, length, ℤ, Option, Some, None, is_some, refl, sym, ap, subst, ◌∙◌, arith}
 use Rattle.std.specs.Prelude.{if◌then◌else◌}
 use Rattle.amr_num.specs.Numbers.{at}
 use Rattle.mesh_model.specs.Fields.Firsts.{first_below}
 use Rattle.mesh_model.specs.Fields.RangeWalk.{is_above}
 use Rattle.mesh_model.proofs.FieldLemmas.FirstFound.{first_same, found_first, one_more_none}
 use Rattle.regrid_move.specs.Above.{above_at, first_in_row}
+use Rattle.regrid_move.specs.declared.above.Above.{Above}
 
 -- it is found here, or nothing is
 pub found_here : {A : Type 0} (n m : ℕ) (at : ℕ → Option A) (r : Option A) → first_below m at ≡ None → r ≡ at m → is_some r ≡ true → m < n → r ≡ first_below n at

@@ -1,8 +1,9 @@
 -- Leaves of the new grid: they are near old ones, and hold the regridded mesh.
-use Rattle.std.proofs.Common.{◌≡◌, ℕ, ◌<◌, Bool, true, false, ℤ, pos, refl, sym, ap, subst, ◌∙◌, arith, inl, inr}
+use Rattle.std.proofs.Common.{◌≡◌, ℕ, ◌+◌, ◌*◌, ◌<◌, ◌⊎◌, Bool, true, false, ℤ, pos, refl, sym, ap, subst, ◌∙◌, arith, inl, inr}
 use Rattle.std.specs.Prelude.{if◌then◌else◌}
 use Rattle.amr_num.specs.declared.BlockAt.{BlockAt}
-use Rattle.mesh_model.specs.Geometry.Blocks.{parent_block}
+use Rattle.amr_num.specs.declared.CellAt.{CellAt}
+use Rattle.mesh_model.specs.Geometry.Blocks.{child_block, parent_block}
 use Rattle.mesh_model.specs.Tree.Order.{IsIn}
 use Rattle.mesh_model.specs.Fields.ArrayPlaces.{HoldsViews}
 use Rattle.mesh_model.specs.Tree.Kinds.{Grid, is_leaf, is_leaf_block, is_split}
@@ -21,7 +22,7 @@ use Rattle.mesh_model.proofs.TreeLemmas.Tiling.{leaf_says}
 use Rattle.mesh_model.proofs.FieldLemmas.ValidGrid.{leaf_whole}
 use Rattle.block_tree.specs.Growing.{MayRegrow}
 use Rattle.block_tree.specs.Numbered.{block_at}
-use Rattle.rank_world.specs.Holding.{LeavesHold, numbers_of}
+use Rattle.rank_world.specs.Holding.{IsLeafNode, LeavesHold, numbers_of}
 use Rattle.regrid_move.specs.Near.{AreNear, IsNear, LeavesMoved}
 
 -- each leaf of the new grid is near

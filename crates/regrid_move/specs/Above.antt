@@ -1,5 +1,5 @@
 -- Numbers out of range among those of a block, by their places.
-use Rattle.std.specs.Prelude.{ℕ, ◌^◌, List, ℤ, Option, Some, None, if◌then◌else◌}
+use Rattle.std.specs.Prelude.{ℕ, ◌+◌, ◌^◌, List, ℤ, Option, Some, None, if◌then◌else◌}
 use Rattle.amr_num.specs.Numbers.{at}
 use Rattle.mesh_model.specs.Fields.Firsts.{first_below, first_in_box}
 use Rattle.mesh_model.specs.Fields.RangeWalk.{is_above}
