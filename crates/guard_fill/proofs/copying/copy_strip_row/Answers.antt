@@ -1,26 +1,18 @@
 use Rattle.std.proofs.Common.{rules, ◌+◌, ◌/◌, ◌%◌, ◌<◌, ◌≤◌, arith, ap₂, length, subst, ◌∙◌, refl}
 use Rattle.mesh_model.specs.Fields.ArrayPlaces.{cell_extents, number_at}
-use Rattle.mesh_model.proofs.FieldLemmas.BlockPlaces.{row_y, row_z}
 use Rattle.guard_fill.specs.Strips.{box_of, cell_at, from_cells, inner}
-use Rattle.guard_fill.proofs.PatchRows.{patch_fits, row_written, taken}
+use Rattle.guard_fill.proofs.PatchRows.{patch_fits, row_cells, row_inside_patch, row_written, taken}
 use Rattle.guard_fill.proofs.copying.copy_strip_row.Goals as goal
 
 pub cell_row-cells-requires-clause-inside : goal.cell_row-cells-requires-clause-inside
 cell_row-cells-requires-clause-inside c =
-    let e = cell_extents c.args.n c.args.g in
-    let p = c.args.patch in
-    let within = c.requires.within in
-    let fits = patch_fits c.args.n c.args.g p within in
-    let j = within.y.cells (c.args.m % p.y.many) (row_y e (box_of p) fits c.args.m c.requires.row) in
-    let k = within.z.cells (c.args.m / p.y.many) (row_z e (box_of p) fits c.args.m c.requires.row) in
-    (omega (arith, c.cell.ensures), omega (arith, c.cell-2.ensures))
+    let inside = row_cells c.args.n c.args.g c.args.patch c.requires.within c.args.m c.requires.row in (
+      omega (arith, c.cell.ensures, inside.0),
+      omega (arith, c.cell-2.ensures, inside.1),
+    )
 
 pub row_start-to-requires-clause-row : goal.row_start-to-requires-clause-row
-row_start-to-requires-clause-row c =
-    let e = cell_extents c.args.n c.args.g in
-    let p = c.args.patch in
-    let fits = patch_fits c.args.n c.args.g p c.requires.within in
-    (row_y e (box_of p) fits c.args.m c.requires.row, row_z e (box_of p) fits c.args.m c.requires.row)
+row_start-to-requires-clause-row c = row_inside_patch c.args.n c.args.g c.args.patch c.requires.within c.args.m c.requires.row
 
 pub slice_bounds-copy_row-end : goal.slice_bounds-copy_row-end
 slice_bounds-copy_row-end c =

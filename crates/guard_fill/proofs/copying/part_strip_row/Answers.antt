@@ -1,25 +1,19 @@
 use Rattle.std.proofs.Common.{rules, ◌+◌, ◌/◌, ◌%◌, ◌<◌, ◌≤◌, arith, ap₂, length, subst, ◌∙◌, refl}
 use Rattle.mesh_model.specs.Fields.ArrayPlaces.{cell_extents, number_at}
 use Rattle.mesh_model.specs.Fields.Octants.{parted}
-use Rattle.mesh_model.proofs.FieldLemmas.BlockPlaces.{row_y, row_z}
 use Rattle.mesh_model.proofs.GeometryLemmas.Halves.{half_of, in_half}
 use Rattle.prolong_op.proofs.Rows.{row_parts}
 use Rattle.guard_fill.specs.Strips.{box_of, cell_at, from_cells}
-use Rattle.guard_fill.proofs.PatchRows.{patch_fits, row_written, taken}
+use Rattle.guard_fill.proofs.PatchRows.{patch_fits, row_cells, row_inside_patch, row_written, taken}
 use Rattle.guard_fill.proofs.copying.part_strip_row.Goals as goal
 
 pub cell_row-whole-requires-clause-inside : goal.cell_row-whole-requires-clause-inside
 cell_row-whole-requires-clause-inside c =
     let n = c.args.n in
     let q = c.args.q in
-    let e = cell_extents n c.args.g in
-    let p = c.args.patch in
-    let within = c.requires.within in
-    let fits = patch_fits n c.args.g p within in
-    let j = within.y.cells (c.args.m % p.y.many) (row_y e (box_of p) fits c.args.m c.requires.row) in
-    let k = within.z.cells (c.args.m / p.y.many) (row_z e (box_of p) fits c.args.m c.requires.row) in
-    let row : c.cell-row.result < n = omega (arith, c.cell-row.ensures) in
-    let plane : c.cell-plane.result < n = omega (arith, c.cell-plane.ensures) in
+    let inside = row_cells n c.args.g c.args.patch c.requires.within c.args.m c.requires.row in
+    let row : c.cell-row.result < n = omega (arith, c.cell-row.ensures, inside.0) in
+    let plane : c.cell-plane.result < n = omega (arith, c.cell-plane.ensures, inside.1) in
     let hj = half_of n c.cell-row.result c.requires.size.cells row in
     let hk = half_of n c.cell-plane.result c.requires.size.cells plane in (
       in_half n (q / 2 % 2) (c.cell-row.result / 2) c.requires.size.cells (omega arith) hj,
@@ -27,11 +21,7 @@ cell_row-whole-requires-clause-inside c =
     )
 
 pub row_start-to-requires-clause-row : goal.row_start-to-requires-clause-row
-row_start-to-requires-clause-row c =
-    let e = cell_extents c.args.n c.args.g in
-    let p = c.args.patch in
-    let fits = patch_fits c.args.n c.args.g p c.requires.within in
-    (row_y e (box_of p) fits c.args.m c.requires.row, row_z e (box_of p) fits c.args.m c.requires.row)
+row_start-to-requires-clause-row c = row_inside_patch c.args.n c.args.g c.args.patch c.requires.within c.args.m c.requires.row
 
 pub slice_bounds-part_row-end-2 : goal.slice_bounds-part_row-end-2
 slice_bounds-part_row-end-2 c =
