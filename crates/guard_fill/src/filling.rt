@@ -1,8 +1,7 @@
 //! The guard cells of leaves.
 
 ghost use Rattle.amr_num.specs.declared.CellAt.{CellAt};
-ghost use Rattle.block_tree.specs.Numbered.{IsNode, block_at};
-ghost use Rattle.guard_fill.specs.Filling.{IsFilled, IsGathered, IsKnown, IsPatched, LeavesGuarded, NodeGuarded, OnlyGuards};
+ghost use Rattle.guard_fill.specs.Filling.{IsFilled, IsGathered, IsKnown, IsPatched, LeavesGuarded, OnlyGuards};
 ghost use Rattle.guard_fill.specs.Restricting.{IsCellGroup, IsReady, cell_variable};
 ghost use Rattle.guard_fill.specs.Strips.{AreWithin, IsPatch, IsStrip, block_of};
 ghost use Rattle.mesh_model.specs.declared.fields.values.Var.TheVariants.{Cell};
@@ -14,7 +13,7 @@ ghost use Rattle.mesh_model.specs.Geometry.Limits.{IsShape};
 ghost use Rattle.mesh_model.specs.Geometry.Touch as touch;
 ghost use Rattle.mesh_model.specs.Tree.Kinds.{is_leaf_block};
 ghost use Rattle.rank_world.specs.Holding.{IsLeafNode, NodesHold, cell_array};
-ghost use Rattle.std.specs.Prelude.{◌≡◌, ◌≢◌, ◌*◌, ◌^◌, ◌<◌, ℕ, ℤ, length, true};
+ghost use Rattle.std.specs.Prelude.{◌≡◌, ◌*◌, ◌^◌, ◌<◌, ℤ, length, true};
 
 use crate::copying::{copy_strip, part_strip};
 use crate::restricting::MOST_PLACES;

@@ -4,7 +4,7 @@ ghost use Rattle.amr_num.specs.declared.CellAt.{CellAt};
 ghost use Rattle.block_tree.specs.Numbered.{IsNode, IsNumberOf, block_at};
 ghost use Rattle.guard_fill.specs.Restricting.{ChildrenHold, HoldSmallField, IsCellGroup, IsReady, OnlyParents, cell_variable};
 ghost use Rattle.mesh_model.specs.declared.fields.values.Var.TheVariants.{Cell};
-ghost use Rattle.mesh_model.specs.Fields.ArrayPlaces.{IsSize, cell_extents, number_at, size_of};
+ghost use Rattle.mesh_model.specs.Fields.ArrayPlaces.{cell_extents, number_at, size_of};
 ghost use Rattle.mesh_model.specs.Fields.Octants.{IsRestricted, SumsAreSmall};
 ghost use Rattle.mesh_model.specs.Fields.Ranks.{IsFit, OnlyOf};
 ghost use Rattle.mesh_model.specs.Geometry.Blocks.{child_block};

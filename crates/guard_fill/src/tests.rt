@@ -2,7 +2,7 @@
 
 ghost use Rattle.guard_fill.specs.Trials.{IsTrial};
 ghost use Rattle.mesh_model.specs.Geometry.Limits.{IsShape};
-ghost use Rattle.std.specs.Prelude.{◌≡◌, ◌<◌, ◌≤◌, IfSome};
+ghost use Rattle.std.specs.Prelude.{◌<◌, ◌≤◌, IfSome};
 
 use crate::laws::near_views_are_small;
 use crate::{fill, restrict_all};
