@@ -5,10 +5,12 @@ use Rattle.amr_num.specs.declared.CellAt.{CellAt}
 use Rattle.mesh_model.specs.declared.fields.values.Var.TheVariants.{Cell}
 use Rattle.mesh_model.specs.Fields.ArrayPlaces.{HoldsGuards, HoldsViews, cell_extents, number_at, side}
 use Rattle.mesh_model.specs.Fields.Octants.{cells_of}
+use Rattle.mesh_model.specs.Fields.Plain.{Mesh}
 use Rattle.mesh_model.specs.Fields.Ranks.{IsSized, OnlyOf, Told, WorldState}
 use Rattle.mesh_model.specs.Tree.Kinds.{is_leaf_block}
 use Rattle.block_tree.specs.Numbered.{IsNode, block_at}
-use Rattle.rank_world.specs.Holding.{IsLeafNode, LeavesHold, NodeHolds, NodesHold, cell_array, numbers_of}
+use Rattle.rank_world.specs.Holding.{IsLeafNode, IsOfMesh, LeavesHold, NodeHolds, NodesHold, cell_array, numbers_of}
+use Rattle.rank_world.proofs.Meshes.{cells_keep_mesh}
 use Rattle.guard_fill.specs.Filling.{IsGathered, NodeGuarded, OnlyGuards, guard_at}
 use Rattle.guard_fill.proofs.Gathering.{gathered_all}
 use Rattle.guard_fill.proofs.Restricted.{cells_step, node_along}
@@ -100,3 +102,7 @@ module _ (n e : ℕ) (now mid new : WorldState) (v node : ℕ) (sized : IsSized 
       along k same guarded =
           subst (λ (t : Told). HoldsGuards t.grid content (block_at t.grid k) (cells_of t.grid (cell_array new v k))) (sym here.told)
           (subst (λ (xs : List ℤ). HoldsGuards mid.told.grid content (block_at mid.told.grid k) (cells_of mid.told.grid xs)) (sym same) guarded)
+
+-- after a fill the world is that of its mesh
+pub filled_mesh : (a b : WorldState) (v : ℕ) (m : Mesh) → OnlyGuards a b v → IsOfMesh a m → IsOfMesh b m
+filled_mesh a b v m only of = cells_keep_mesh a b v m only.only (λ content. leaves_keep a b v content only) of

@@ -1,35 +1,37 @@
 -- The views in the nearest layer of guard cells of a leaf are small: a cell beside a leaf is split at most once.
-use Rattle.std.proofs.Common.{◌≡◌, ℕ, zero, suc, ◌+◌, ◌-◌, ◌*◌, ◌/◌, ◌%◌, ◌^◌, ◌<◌, ◌≤◌, ◌⊎◌, Bool, true, false, ℤ, pos, refl, sym, ap, subst, ◌∙◌, arith, inl, inr}
+use Rattle.std.proofs.Common.{◌≡◌, ℕ, zero, suc, ◌+◌, ◌-◌, ◌*◌, ◌/◌, ◌%◌, ◌^◌, ◌<◌, ◌≤◌, ◌⊎◌, Bool, true, false, ℤ, refl, sym, ap, subst, ◌∙◌, arith, inl, inr}
 use Rattle.std.proofs.Math.Nat.{div-lt_iff_lt-mul, lt-div-mul-add, lt_of_mul-lt-mul_right}
 use Rattle.std.proofs.lemmas.Bool.{cases_Bool, cases_lt}
 use Rattle.amr_num.specs.declared.Axis.{Axis}
 use Rattle.amr_num.specs.declared.Axis.TheVariants.{X, Y, Z}
 use Rattle.amr_num.specs.declared.BlockAt.{BlockAt}
 use Rattle.amr_num.specs.declared.CellAt.{CellAt}
-use Rattle.amr_num.specs.Numbers.{Within, part, sum_below}
+use Rattle.amr_num.specs.Numbers.{Within, part}
 use Rattle.amr_num.proofs.Sizes.{part_size, sum_within}
-use Rattle.mesh_model.specs.declared.geometry.Shape.{Shape}
-use Rattle.mesh_model.specs.Fields.ArrayPlaces.{IsSize, cell_there}
+use Rattle.mesh_model.specs.Fields.ArrayPlaces.{IsSize, cell_there, side}
+use Rattle.mesh_model.specs.Fields.Ranks.{WorldState}
 use Rattle.mesh_model.specs.Fields.Views.{cell_view, view_at}
 use Rattle.mesh_model.specs.Geometry.Blocks.{InDomain}
 use Rattle.mesh_model.specs.Geometry.Coordinates.{Inside, extent, is_periodic, octant_of, on, parent_cell, roots, sub_cell}
-use Rattle.mesh_model.specs.Geometry.Limits.{IsShape}
 use Rattle.mesh_model.specs.Geometry.Outside.{brought_in, cell_in}
 use Rattle.mesh_model.specs.Geometry.Places.{guard_index}
 use Rattle.mesh_model.specs.Geometry.Touch.{block_on, high_end, low_end}
-use Rattle.mesh_model.specs.Tree.Kinds.{Grid, block_of, is_leaf, is_split, is_split_block}
+use Rattle.mesh_model.specs.Tree.Kinds.{Grid, block_of, is_leaf, is_split}
 use Rattle.mesh_model.specs.Tree.Order.{IsIn}
 use Rattle.mesh_model.specs.Tree.ValidGrid.{Valid}
 use Rattle.mesh_model.proofs.FieldLemmas.Beside.{block_in_domain}
 use Rattle.mesh_model.proofs.FieldLemmas.CellSums.{at_inner, at_leaf, cell_view_sum, parent_of_sub}
 use Rattle.mesh_model.proofs.FieldLemmas.Round.{parent_block_of}
-use Rattle.mesh_model.proofs.FieldLemmas.ValidGrid.{kinds, tree}
+use Rattle.mesh_model.proofs.FieldLemmas.ValidGrid.{tree}
 use Rattle.mesh_model.proofs.GeometryLemmas.ShapeLimits.{cells_some, cells_least as shape_cells_least}
 use Rattle.mesh_model.proofs.TreeLemmas.Levels.{split_level, touching_leaf}
 use Rattle.mesh_model.proofs.TreeLemmas.Tests.{refuted}
-use Rattle.mesh_model.proofs.TreeLemmas.Tiling.{IsChild, domain_child}
+use Rattle.mesh_model.proofs.TreeLemmas.Tiling.{IsChild, domain_child, leaf_says}
 use Rattle.mesh_model.proofs.TreeLemmas.Touching.{Meet, Touch, high_second, low_first, meet_times, touch_shows, touch_swap}
 use Rattle.guard_fill.proofs.AxisStrips.{along_same, cells_least, guards_least, high_clamped, high_own, high_turned, inside_block, last_row, low_clamped, low_own, low_turned, next_row}
+use Rattle.block_tree.specs.Numbered.{block_at}
+use Rattle.rank_world.specs.Holding.{IsLeafNode, numbers_of}
+use Rattle.guard_fill.specs.Filling.{NodeGuarded}
 use Rattle.guard_fill.specs.Near.{IsNear}
 use Rattle.guard_fill.proofs.Neighbours.{whole_turn}
 use Rattle.guard_fill.proofs.Patches.{turn_over}
@@ -270,3 +272,12 @@ near_view_within g content most b i j k valid small leaf hi hj hk =
     next inside X = on_axis X b.level b.x i inside.x hi
     next inside Y = on_axis Y b.level b.y j inside.y hj
     next inside Z = on_axis Z b.level b.z k inside.z hk
+
+-- so are the numbers of a leaf that has its guard cells
+pub near_number_within : (w : WorldState) (v node i j k : ℕ) (content : CellAt → ℤ) (most : ℕ) → Valid w.told.grid → ((c : CellAt) → Within most (content c)) → IsLeafNode w.told.grid node →
+    NodeGuarded w v content node → let s = w.told.grid.shape in IsNear s i → IsNear s j → IsNear s k → Within (8 * most) (numbers_of w v node i j k)
+near_number_within w v node i j k content most valid small leaf guarded hi hj hk =
+    let g = w.told.grid in
+    let inside : (t : ℕ) → IsNear g.shape t → t < side g.shape.n g.shape.g = (λ t near. (let few = guards_least {n = g.shape.n} (record { cells = valid.shape.cells; guards = valid.shape.guards }) in let high = near.high in omega arith)) in
+    subst (Within (8 * most)) (sym (guarded.at i j k (inside i hi) (inside j hj) (inside k hk)))
+    (near_view_within g content most (block_at g node) i j k valid small (leaf_says g (block_at g node) leaf.leaf) hi hj hk)

@@ -10,18 +10,20 @@ use Rattle.mesh_model.specs.Geometry.Limits.{IsShape}
 use Rattle.mesh_model.specs.Geometry.Places.{in_block}
 use Rattle.mesh_model.specs.Tree.Kinds.{Grid, is_leaf_block, is_split, is_split_block}
 use Rattle.mesh_model.specs.Tree.ValidGrid.{Valid}
-use Rattle.mesh_model.specs.Fields.ArrayPlaces.{HoldsViews, IsSize, cell_extents, number_at}
+use Rattle.mesh_model.specs.Fields.ArrayPlaces.{HoldsViews, cell_extents, number_at}
 use Rattle.mesh_model.specs.Fields.Octants.{IsRestricted, OctantHolds, SumsAreSmall, cells_of, half_at}
-use Rattle.mesh_model.specs.Fields.Ranks.{IsSized, OnlyOf, Told, WorldState}
+use Rattle.mesh_model.specs.Fields.Ranks.{IsFit, IsSized, OnlyOf, Told, WorldState}
 use Rattle.mesh_model.proofs.FieldLemmas.BlockOctants.{block_of_cell, eight_view, few_sized, octant_summed, other_octant, restricted_sized}
 use Rattle.mesh_model.specs.Fields.Laws.{leaf_cells}
+use Rattle.mesh_model.specs.Fields.Plain.{Mesh}
 use Rattle.mesh_model.specs.Fields.Views.{cell_view}
 use Rattle.mesh_model.proofs.FieldLemmas.Bounds.{split_view_within, wider}
 use Rattle.mesh_model.proofs.FieldLemmas.KeptValid.{leaf_cells_few}
 use Rattle.mesh_model.proofs.GeometryLemmas.Halves.{in_half}
 use Rattle.block_tree.specs.Numbered.{IsNumberOf, block_at}
-use Rattle.rank_world.specs.Holding.{IsOfValidMesh, NodeHolds, OnlyCells, cell_array}
-use Rattle.guard_fill.specs.Restricting.{HoldSmallField, OnlyParents, SplitViewsAreSmall}
+use Rattle.rank_world.specs.Holding.{IsLeafNode, IsOfMesh, IsOfValidMesh, LeavesHold, NodeHolds, OnlyCells, cell_array}
+use Rattle.rank_world.proofs.Meshes.{cells_keep_mesh}
+use Rattle.guard_fill.specs.Restricting.{HoldSmallField, IsReady, OnlyParents, SplitViewsAreSmall}
 
 -- one more octant is summed
 pub octant_step : (g : Grid) (n e : ℕ) (content : CellAt → ℤ) (b : BlockAt) (q : ℕ) (child old new : List ℤ) → Valid g → IsSized n e g.shape → q < 8 →
@@ -33,11 +35,15 @@ octant_step g n e content b q child old new valid sized hq sums views so_far =
     (λ p l. let ne : p ≢ q = omega arith in other_octant g content b valid q p child old new hq (omega arith) ne here (so_far p l))
     (octant_summed g content b valid q child old new here views)
 
--- a child is another node
-pub child_apart : (g : Grid) (node q child : ℕ) → IsNumberOf g (child_block (block_at g node) q) child → child ≢ node
-child_apart g node q child found same =
-    let level : (block_at g node).level ≡ suc (block_at g node).level = ap (λ i. (block_at g i).level) (sym same) ∙ ap (λ (x : BlockAt). x.level) found.block in
-    absurd (omega arith)
+-- a child is another node, and so it has its numbers while the node is written
+module _ (now mid : WorldState) (v node q child : ℕ) (g : Grid) (grid : g ≡ mid.told.grid) (only : OnlyOf now mid 0 (Cell v) node) (is : IsNumberOf g (child_block (block_at g node) q) child) where
+  pub child_found : IsNumberOf now.told.grid (child_block (block_at now.told.grid node) q) child
+  child_found = subst (λ (h : Grid). IsNumberOf h (child_block (block_at h node) q) child) (grid ∙ ap (λ (t : Told). t.grid) only.told) is
+
+  pub child_same : cell_array mid v child ≡ cell_array now v child
+  child_same = only.here.others (Cell v) child (λ u same.
+      (let level : (block_at now.told.grid node).level ≡ suc (block_at now.told.grid node).level = ap (λ i. (block_at now.told.grid i).level) (sym same) ∙ ap (λ (x : BlockAt). x.level) child_found.block in
+      omega arith))
 
 -- the sums of the cells of a split block's child are small enough
 pub sums_small : (g : Grid) (n e : ℕ) (content : CellAt → ℤ) (b : BlockAt) (q : ℕ) (child : List ℤ) → Valid g → IsSized n e g.shape → SplitViewsAreSmall g content →
@@ -77,14 +83,21 @@ parents_step a b c v node before here inner = record {
 
 -- ---- sizes and fields
 
--- a world's blocks have a shape's sizes
-pub size_of_shape : (n e : ℕ) (s t : Shape) → IsShape t → t ≡ s → IsSized n e s → IsSize n e
-size_of_shape n e s t shape same sized =
-    let here : IsShape s = subst IsShape same shape in
+-- a cell variable of a world may be worked on, and after a step too
+pub ready_now : (n e : ℕ) (w : WorldState) (v : ℕ) (s : Shape) → IsShape s → s ≡ w.told.grid.shape → IsFit n e w → v < w.told.counts.cells → IsReady n e w v
+ready_now n e w v s shape same fit variable =
+    let here : IsShape w.told.grid.shape = subst IsShape same shape in
     record {
-      cells = subst (λ m. (m ≡ 4) ⊎ (m ≡ 8)) sized.cells here.cells;
-      guards = subst (λ m. (m ≡ 1) ⊎ ((m ≡ 2) ⊎ (m ≡ 4))) sized.guards here.guards;
+      size = record {
+        cells = subst (λ m. (m ≡ 4) ⊎ (m ≡ 8)) fit.sizes.cells here.cells;
+        guards = subst (λ m. (m ≡ 1) ⊎ ((m ≡ 2) ⊎ (m ≡ 4))) fit.sizes.guards here.guards;
+      };
+      fit = fit;
+      variable = variable;
     }
+
+pub ready_after : (n e : ℕ) (a b : WorldState) (v : ℕ) → IsReady n e a v → IsFit n e b → b.told ≡ a.told → IsReady n e b v
+ready_after n e a b v ready fit told = record { size = ready.size; fit = fit; variable = subst (λ (t : Told). v < t.counts.cells) (sym told) ready.variable }
 
 -- in a valid mesh the views of split cells are small enough
 pub of_small_field : (w : WorldState) (v : ℕ) → IsOfValidMesh w → v < w.told.counts.cells → HoldSmallField w v
@@ -97,3 +110,13 @@ of_small_field w v of within =
           (λ c split. wider (cell_view m.grid (m.cells v) c) (2 ^ 40 * leaf_cells m.grid) (2 ^ 62)
           (split_view_within m.grid of.valid.grid (m.cells v) (2 ^ 40) (λ d leaf. of.valid.range.cells v d) c split) (leaf_cells_few m of.valid));
     }
+
+-- after nodes above the leaves were summed the leaves hold what they held, and the world is that of its mesh
+module _ (a b : WorldState) (v : ℕ) (only : OnlyParents a b v) where
+  pub leaves_stay : (content : CellAt → ℤ) → LeavesHold a v content → LeavesHold b v content
+  leaves_stay content holds node leaf =
+      let was : IsLeafNode a.told.grid node = subst (λ (t : Told). IsLeafNode t.grid node) only.only.told leaf in
+      node_along a b v content node only.only.told (only.leaves node was) (holds node was)
+
+  pub restricted_mesh : (m : Mesh) → IsOfMesh a m → IsOfMesh b m
+  restricted_mesh m of = cells_keep_mesh a b v m only.only leaves_stay of

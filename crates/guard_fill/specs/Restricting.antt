@@ -7,7 +7,8 @@ use Rattle.mesh_model.specs.declared.fields.values.Group.TheVariants.{Cell, Face
 use Rattle.mesh_model.specs.Geometry.Blocks.{child_block}
 use Rattle.mesh_model.specs.Tree.Kinds.{Grid, is_split}
 use Rattle.mesh_model.specs.Fields.Arrays.{Counts}
-use Rattle.mesh_model.specs.Fields.Ranks.{WorldState}
+use Rattle.mesh_model.specs.Fields.ArrayPlaces.{IsSize}
+use Rattle.mesh_model.specs.Fields.Ranks.{IsFit, WorldState}
 use Rattle.mesh_model.specs.Fields.Views.{cell_view}
 use Rattle.block_tree.specs.Numbered.{IsNumberOf, block_at}
 use Rattle.rank_world.specs.Holding.{IsLeafNode, LeavesHold, NodeHolds, OnlyCells, cell_array}
@@ -23,6 +24,12 @@ abbrev pub cell_variable : Group → ℕ
 cell_variable (Cell v) = v
 cell_variable Face = 0
 cell_variable Edge = 0
+
+-- a cell variable of a world may be worked on
+pub record IsReady (n g : ℕ) (w : WorldState) (v : ℕ) : Type 0 where
+  pub size : IsSize n g
+  pub fit : IsFit n g w
+  pub variable : v < w.told.counts.cells
 
 -- the arrays of a cell variable may have other numbers in nodes that are no leaves, and all else is as it was
 pub record OnlyParents (old new : WorldState) (v : ℕ) : Type 0 where

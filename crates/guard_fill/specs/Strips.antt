@@ -43,6 +43,7 @@ pub record IsWithin (n g : ℕ) (s : Strip) : Type 0 where
   pub places : s.to + s.many ≤ side n g
   pub cells : (t : ℕ) → t < s.many → cell_at s t < n
 
+-- and so do those of a patch on each axis
 pub record AreWithin (n g : ℕ) (p : Patch) : Type 0 where
   pub x : IsWithin n g p.x
   pub y : IsWithin n g p.y

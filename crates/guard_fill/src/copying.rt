@@ -3,7 +3,7 @@
 ghost use Rattle.amr_num.specs.Numbers as numbers;
 ghost use Rattle.amr_num.specs.Numbers.{at};
 ghost use Rattle.guard_fill.specs.Strips.{AreWithin, box_of, cell_at, from_cells, inner};
-ghost use Rattle.mesh_model.specs.Fields.ArrayPlaces.{IsRowWritten, IsSize, IsWritten, cell_extents, number_at, place_in, row_of, size_of};
+ghost use Rattle.mesh_model.specs.Fields.ArrayPlaces.{IsRowWritten, IsSize, IsWritten, cell_extents, number_at, place_in, size_of};
 ghost use Rattle.mesh_model.specs.Fields.Octants.{parted};
 ghost use Rattle.std.specs.Prelude.{◌≡◌, ℕ, ◌+◌, ◌*◌, ◌/◌, ◌%◌, ◌<◌, ◌≤◌, length};
 
@@ -63,19 +63,25 @@ fn part_row(x: Strip, octant: usize, cells: &[i64], out: &mut [i64])
     }
 }
 
-/// Copies the `m`-th row of a strip from the cells of a block.
-fn copy_strip_row(n: usize, g: usize, patch: Patch, source: &[i64], room: &mut [i64], m: usize)
+/// Copies the row (j, k) of a strip from the cells of a block.
+fn copy_strip_row(
+    n: usize,
+    g: usize,
+    patch: Patch,
+    source: &[i64],
+    room: &mut [i64],
+    j: usize,
+    k: usize,
+)
     requires size { IsSize n g }
     requires within { AreWithin n g patch }
     requires source { length source.now ≡ size_of (cell_extents n g) }
     requires room { length room.old ≡ size_of (cell_extents n g) }
-    requires row { m < patch.y.many * patch.z.many }
+    requires row { (j < patch.y.many) × (k < patch.z.many) }
     ensures { let e = cell_extents n g in
-        IsRowWritten (row_of e (box_of patch) m) patch.x.many
-        (λ t. from_cells patch (inner g (number_at e source.now)) t (m % patch.y.many) (m / patch.y.many)) room.old room.new }
+        IsRowWritten (place_in e patch.x.to (patch.y.to + j) (patch.z.to + k)) patch.x.many
+        (λ t. from_cells patch (inner g (number_at e source.now)) t j k) room.old room.new }
 {
-    let j = m % patch.y.many;
-    let k = m / patch.y.many;
     let cells = cell_row(n, g, source, cell(patch.y, j), cell(patch.z, k));
     let to = row_start(n, g, patch, j, k);
     copy_row(patch.x, cells, &mut room[to..to + patch.x.many]);
@@ -90,12 +96,14 @@ pub(crate) fn copy_strip(n: usize, g: usize, patch: Patch, source: &[i64], room:
     ensures { let e = cell_extents n g in
         IsWritten e (box_of patch) (from_cells patch (inner g (number_at e source.now))) room.old room.new }
 {
-    for m in 0..patch.y.many * patch.z.many {
-        copy_strip_row(n, g, patch, source, room, m);
+    for k in 0..patch.z.many {
+        for j in 0..patch.y.many {
+            copy_strip_row(n, g, patch, source, room, j, k);
+        }
     }
 }
 
-/// Sets the `m`-th row of a strip to its parts of the cells of the block of whose child `q` the strip has the cells.
+/// Sets the row (j, k) of a strip to its parts of the cells of the block of whose child `q` the strip has the cells.
 fn part_strip_row(
     n: usize,
     g: usize,
@@ -103,21 +111,20 @@ fn part_strip_row(
     patch: Patch,
     parent: &[i64],
     room: &mut [i64],
-    m: usize,
+    j: usize,
+    k: usize,
 )
     requires size { IsSize n g }
     requires octant { q < 8 }
     requires within { AreWithin n g patch }
     requires parent { length parent.now ≡ size_of (cell_extents n g) }
     requires room { length room.old ≡ size_of (cell_extents n g) }
-    requires row { m < patch.y.many * patch.z.many }
+    requires row { (j < patch.y.many) × (k < patch.z.many) }
     ensures { let e = cell_extents n g in
-        IsRowWritten (row_of e (box_of patch) m) patch.x.many
-        (λ t. from_cells patch (parted n g q (number_at e parent.now)) t (m % patch.y.many) (m / patch.y.many)) room.old room.new }
+        IsRowWritten (place_in e patch.x.to (patch.y.to + j) (patch.z.to + k)) patch.x.many
+        (λ t. from_cells patch (parted n g q (number_at e parent.now)) t j k) room.old room.new }
 {
     let half = n / 2;
-    let j = m % patch.y.many;
-    let k = m / patch.y.many;
     let row = cell(patch.y, j);
     let plane = cell(patch.z, k);
     let whole = cell_row(
@@ -154,7 +161,9 @@ pub(crate) fn part_strip(
     ensures { let e = cell_extents n g in
         IsWritten e (box_of patch) (from_cells patch (parted n g q (number_at e parent.now))) room.old room.new }
 {
-    for m in 0..patch.y.many * patch.z.many {
-        part_strip_row(n, g, q, patch, parent, room, m);
+    for k in 0..patch.z.many {
+        for j in 0..patch.y.many {
+            part_strip_row(n, g, q, patch, parent, room, j, k);
+        }
     }
 }

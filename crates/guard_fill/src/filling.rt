@@ -1,20 +1,19 @@
 //! The guard cells of leaves.
 
 ghost use Rattle.amr_num.specs.declared.CellAt.{CellAt};
-ghost use Rattle.block_tree.specs.Numbered.{IsNode, block_at};
-ghost use Rattle.guard_fill.specs.Filling.{IsFilled, IsGathered, IsKnown, IsPatched, LeavesGuarded, NodeGuarded, OnlyGuards};
-ghost use Rattle.guard_fill.specs.Restricting.{IsCellGroup, cell_variable};
+ghost use Rattle.guard_fill.specs.Filling.{IsFilled, IsGathered, IsKnown, IsPatched, LeavesGuarded, OnlyGuards};
+ghost use Rattle.guard_fill.specs.Restricting.{IsCellGroup, IsReady, cell_variable};
 ghost use Rattle.guard_fill.specs.Strips.{AreWithin, IsPatch, IsStrip, block_of};
 ghost use Rattle.mesh_model.specs.declared.fields.values.Var.TheVariants.{Cell};
 ghost use Rattle.mesh_model.specs.Fields.ArrayPlaces.{IsSize, cell_extents, size_of};
 ghost use Rattle.mesh_model.specs.Fields.Ranks.{IsFit, OnlyOf};
-ghost use Rattle.mesh_model.specs.Geometry.Blocks.{InDomain};
+ghost use Rattle.mesh_model.specs.Geometry.Blocks.{InDomain, parent_block};
 ghost use Rattle.mesh_model.specs.Geometry.Coordinates as coordinates;
 ghost use Rattle.mesh_model.specs.Geometry.Limits.{IsShape};
 ghost use Rattle.mesh_model.specs.Geometry.Touch as touch;
 ghost use Rattle.mesh_model.specs.Tree.Kinds.{is_leaf_block};
 ghost use Rattle.rank_world.specs.Holding.{IsLeafNode, NodesHold, cell_array};
-ghost use Rattle.std.specs.Prelude.{◌≡◌, ◌≢◌, ◌*◌, ◌^◌, ◌<◌, ℕ, ℤ, length, true};
+ghost use Rattle.std.specs.Prelude.{◌≡◌, ◌*◌, ◌^◌, ◌<◌, ℤ, length, true};
 
 use crate::copying::{copy_strip, part_strip};
 use crate::restricting::MOST_PLACES;
@@ -76,9 +75,7 @@ fn part_patch<const N: usize, const G: usize>(
     patch: Patch,
     room: &mut [i64],
 )
-    requires size { IsSize N G }
-    requires fit { IsFit N G world.now }
-    requires variable { v < world.now.told.counts.cells }
+    requires ready { IsReady N G world.now v }
     requires within { AreWithin N G patch }
     requires block { block ≡ block_of block.level patch }
     requires parent { (0 < block.level) × (is_leaf_block world.now.told.grid (parent_block block) ≡ true) }
@@ -109,9 +106,7 @@ fn read_patch<const N: usize, const G: usize>(
     patch: Patch,
     room: &mut [i64],
 )
-    requires size { IsSize N G }
-    requires fit { IsFit N G world.now }
-    requires variable { v < world.now.told.counts.cells }
+    requires ready { IsReady N G world.now v }
     requires within { AreWithin N G patch }
     requires known { IsKnown world.now.told.grid (block_of level patch) }
     requires room { length room.old ≡ size_of (cell_extents N G) }
@@ -140,9 +135,7 @@ fn fill_direction<const N: usize, const G: usize>(
     direction: usize,
     room: &mut [i64],
 )
-    requires size { IsSize N G }
-    requires fit { IsFit N G world.now }
-    requires variable { v < world.now.told.counts.cells }
+    requires ready { IsReady N G world.now v }
     requires leaf { is_leaf_block world.now.told.grid block ≡ true }
     requires direction { direction < 27 }
     requires room { length room.old ≡ size_of (cell_extents N G) }
@@ -155,9 +148,7 @@ fn fill_direction<const N: usize, const G: usize>(
 
 /// Gathers the numbers of a leaf's array, its guard cells' among them.
 fn gather<const N: usize, const G: usize>(world: &World<N, G>, v: u32, node: u32, room: &mut [i64])
-    requires size { IsSize N G }
-    requires fit { IsFit N G world.now }
-    requires variable { v < world.now.told.counts.cells }
+    requires ready { IsReady N G world.now v }
     requires leaf { IsLeafNode world.now.told.grid node }
     requires room { length room.old ≡ size_of (cell_extents N G) }
     ensures { IsGathered N G world.now v node room.new }
@@ -178,9 +169,7 @@ fn fill_leaf<const N: usize, const G: usize>(
     node: u32,
     room: &mut [i64],
 )
-    requires size { IsSize N G }
-    requires fit { IsFit N G world.old }
-    requires variable { v < world.old.told.counts.cells }
+    requires ready { IsReady N G world.old v }
     requires leaf { IsLeafNode world.old.told.grid node }
     requires room { length room.old ≡ size_of (cell_extents N G) }
     ensures only { OnlyOf world.old world.new 0 (Cell v) node }
@@ -193,9 +182,7 @@ fn fill_leaf<const N: usize, const G: usize>(
 
 /// Writes the guard cells of all leaves.
 fn fill_variable<const N: usize, const G: usize>(world: &mut World<N, G>, v: u32, room: &mut [i64])
-    requires size { IsSize N G }
-    requires fit { IsFit N G world.old }
-    requires variable { v < world.old.told.counts.cells }
+    requires ready { IsReady N G world.old v }
     requires room { length room.old ≡ size_of (cell_extents N G) }
     ensures only { OnlyGuards world.old world.new v }
     ensures fit { IsFit N G world.new }
@@ -238,5 +225,3 @@ pub fn fill<const N: usize, const G: usize>(world: &mut World<N, G>, group: Grou
         Group::Edge => unreachable!(),
     }
 }
-
-ghost use Rattle.mesh_model.specs.Geometry.Blocks.{parent_block};

@@ -3,6 +3,7 @@
 
 mod copying;
 mod filling;
+pub mod laws;
 mod restricting;
 mod strips;
 

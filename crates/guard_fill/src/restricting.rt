@@ -2,9 +2,9 @@
 
 ghost use Rattle.amr_num.specs.declared.CellAt.{CellAt};
 ghost use Rattle.block_tree.specs.Numbered.{IsNode, IsNumberOf, block_at};
-ghost use Rattle.guard_fill.specs.Restricting.{ChildrenHold, HoldSmallField, IsCellGroup, OnlyParents, cell_variable};
+ghost use Rattle.guard_fill.specs.Restricting.{ChildrenHold, HoldSmallField, IsCellGroup, IsReady, OnlyParents, cell_variable};
 ghost use Rattle.mesh_model.specs.declared.fields.values.Var.TheVariants.{Cell};
-ghost use Rattle.mesh_model.specs.Fields.ArrayPlaces.{IsSize, cell_extents, number_at, size_of};
+ghost use Rattle.mesh_model.specs.Fields.ArrayPlaces.{cell_extents, number_at, size_of};
 ghost use Rattle.mesh_model.specs.Fields.Octants.{IsRestricted, SumsAreSmall};
 ghost use Rattle.mesh_model.specs.Fields.Ranks.{IsFit, OnlyOf};
 ghost use Rattle.mesh_model.specs.Geometry.Blocks.{child_block};
@@ -28,8 +28,7 @@ fn restrict_child<const N: usize, const G: usize>(
     child: u32,
     room: &mut [i64],
 )
-    requires fit { IsFit N G world.old }
-    requires variable { v < world.old.told.counts.cells }
+    requires ready { IsReady N G world.old v }
     requires node { IsNode world.old.told.grid node }
     requires child { IsNode world.old.told.grid child }
     requires octant { octant < 8 }
@@ -50,9 +49,7 @@ fn restrict_node<const N: usize, const G: usize>(
     node: u32,
     room: &mut [i64],
 )
-    requires size { IsSize N G }
-    requires fit { IsFit N G world.old }
-    requires variable { v < world.old.told.counts.cells }
+    requires ready { IsReady N G world.old v }
     requires node { IsNode world.old.told.grid node }
     requires parent { is_leaf_block world.old.told.grid (block_at world.old.told.grid node) ≡ false }
     requires room { length room.old ≡ size_of (cell_extents N G) }
@@ -77,9 +74,7 @@ fn restrict_variable<const N: usize, const G: usize>(
     v: u32,
     room: &mut [i64],
 )
-    requires size { IsSize N G }
-    requires fit { IsFit N G world.old }
-    requires variable { v < world.old.told.counts.cells }
+    requires ready { IsReady N G world.old v }
     requires room { length room.old ≡ size_of (cell_extents N G) }
     requires field { HoldSmallField world.old v }
     ensures only { OnlyParents world.old world.new v }

@@ -4,7 +4,7 @@
 
 ghost use Rattle.guard_fill.specs.Strips.{IsStrip};
 ghost use Rattle.mesh_model.specs.Fields.ArrayPlaces.{IsSize};
-ghost use Rattle.std.specs.Prelude.{◌≡◌, ◌<◌, ◌≤◌};
+ghost use Rattle.std.specs.Prelude.{◌<◌};
 
 use mesh_model::geometry::{above, below};
 

@@ -2,8 +2,9 @@
 
 ghost use Rattle.guard_fill.specs.Trials.{IsTrial};
 ghost use Rattle.mesh_model.specs.Geometry.Limits.{IsShape};
-ghost use Rattle.std.specs.Prelude.{◌≡◌, ◌<◌, ◌≤◌, IfSome};
+ghost use Rattle.std.specs.Prelude.{◌<◌, ◌≤◌, IfSome};
 
+use crate::laws::near_views_are_small;
 use crate::{fill, restrict_all};
 use amr_num::{BlockAt, SideKind};
 use block_store::Layout;
@@ -193,5 +194,6 @@ fn guards_lie_in_finer_and_in_coarser_blocks(rt: HostRuntime) -> Result<(), Fail
     ] {
         assert_eq!(rt; number(&world, at, place), Some(value));
     }
+    near_views_are_small();
     Ok(())
 }

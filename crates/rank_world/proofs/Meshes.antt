@@ -1,16 +1,17 @@
--- A world whose leaves hold numbers in range, without faces and edges, is that of a valid mesh.
-use Rattle.std.proofs.Common.{◌≡◌, ℕ, ◌+◌, ◌*◌, ◌%◌, ◌<◌, ◌≤◌, ◌⊎◌, true, false, List, [], length, ℤ, pos, None, nat_lt, if◌then◌else◌, refl, sym, ap, ap₂, subst, ◌∙◌, arith, inl, inr}
+-- Worlds of meshes: one whose leaves hold numbers in range, without faces and edges, is that of a valid mesh.
+use Rattle.std.proofs.Common.{◌≡◌, ℕ, ◌+◌, ◌*◌, ◌%◌, ◌<◌, ◌≤◌, ◌⊎◌, ◌↔◌, true, false, List, [], length, ℤ, pos, None, nat_lt, if◌then◌else◌, refl, sym, ap, ap₂, subst, ◌∙◌, arith, inl, inr}
 use Rattle.std.specs.Prelude.{replicate}
-use Rattle.std.proofs.lemmas.Bool.{cases_Bool, cases_lt, le-ltb, lt-ltb}
+use Rattle.std.proofs.lemmas.Bool.{cases_Bool, cases_lt, cases_order, le-ltb, lt-ltb}
 use Rattle.std.proofs.lemmas.List.{length-replicate}
-use Rattle.amr_num.specs.declared.BlockAt.{BlockAt}
 use Rattle.amr_num.specs.declared.CellAt.{CellAt}
 use Rattle.amr_num.specs.Numbers.{Within, number_range}
+use Rattle.mesh_model.specs.declared.fields.values.Var.TheVariants.{Cell}
+use Rattle.mesh_model.specs.Fields.ArrayPlaces.{HoldsViews}
+use Rattle.mesh_model.specs.Fields.Octants.{cells_of}
 use Rattle.mesh_model.specs.Fields.Plain.{Mesh}
-use Rattle.mesh_model.specs.Fields.Ranks.{WorldState}
-use Rattle.mesh_model.specs.Fields.Valid.{ValidMesh}
+use Rattle.mesh_model.specs.Fields.Ranks.{Told, WorldState}
 use Rattle.mesh_model.specs.Geometry.Places.{in_block}
-use Rattle.mesh_model.specs.Tree.Kinds.{Grid, block_of, is_leaf, is_leaf_block}
+use Rattle.mesh_model.specs.Tree.Kinds.{block_of, is_leaf, is_leaf_block}
 use Rattle.mesh_model.specs.Tree.Order.{Sorted, key, nodes}
 use Rattle.mesh_model.specs.Tree.ValidGrid.{FewNodes, Valid}
 use Rattle.mesh_model.proofs.FieldLemmas.BlockOctants.{block_of_cell}
@@ -23,7 +24,7 @@ use Rattle.mesh_model.proofs.TreeLemmas.Tiling.{leaf_says}
 use Rattle.block_tree.specs.Numbered.{IsNode, block_at}
 use Rattle.block_tree.proofs.Leaves.{leaf_node}
 use Rattle.block_tree.proofs.Members.{at_in, one_place}
-use Rattle.rank_world.specs.Holding.{IsLeafNode, IsOfMesh, IsOfValidMesh, LeavesHold, LeavesInRange, numbers_of}
+use Rattle.rank_world.specs.Holding.{IsLeafNode, IsOfMesh, IsOfValidMesh, LeavesHold, LeavesInRange, OnlyCells, cell_array, numbers_of}
 
 module _ (w : WorldState) (valid : Valid w.told.grid) (order : Sorted w.told.grid.leaves) where
   abbrev IsLeafCell : CellAt → Type 0
@@ -139,3 +140,29 @@ module _ (w : WorldState) (valid : Valid w.told.grid) (order : Sorted w.told.gri
         | inl within ↦ subst (Within number_range) (sym (content_of v within c)) (in_range range v within c (cases_Bool (is_leaf w.told.grid c)))
         | inr past ↦ subst (Within number_range) (sym (content_past v past c)) (omega arith)
       ]
+
+-- a world of a mesh stays one where the numbers of one cell variable change, and its leaves hold what they held
+pub cells_keep_mesh : (a b : WorldState) (v : ℕ) (m : Mesh) → OnlyCells a b v → ((content : CellAt → ℤ) → LeavesHold a v content → LeavesHold b v content) → IsOfMesh a m → IsOfMesh b m
+cells_keep_mesh a b v m only keeps of = record {
+  grid = ap (λ (t : Told). t.grid) only.told ∙ of.grid;
+  cells = ap (λ (t : Told). t.counts.cells) only.told ∙ of.cells;
+  faces = subst (λ (t : Told). (t.counts.faces ≡ 0) ↔ (m.names.face ≡ None)) (sym only.told) of.faces;
+  edges = subst (λ (t : Told). (t.counts.edges ≡ 0) ↔ (m.names.edge ≡ None)) (sym only.told) of.edges;
+  contents = λ u h. contents u (subst (λ (t : Told). u < t.counts.cells) only.told h);
+}
+  where
+    other : (u : ℕ) → (u ≡ v → ⊥) → LeavesHold a u (m.cells u) → LeavesHold b u (m.cells u)
+    other u apart holds node leaf =
+        subst (λ (t : Told). HoldsViews t.grid (m.cells u) (block_at t.grid node) (cells_of t.grid (cell_array b u node))) (sym only.told)
+        (subst (λ xs. HoldsViews a.told.grid (m.cells u) (block_at a.told.grid node) (cells_of a.told.grid xs)) (sym (only.others (Cell u) node (λ is. apart (same_cell u v is))))
+        (holds node (subst (λ (t : Told). IsLeafNode t.grid node) only.told leaf)))
+      where
+        same_cell : (u v : ℕ) → Cell u ≡ Cell v → u ≡ v
+        same_cell u v is = cc
+
+    contents : (u : ℕ) → u < a.told.counts.cells → LeavesHold b u (m.cells u)
+    contents u h = elim (cases_order u v) [
+      | inl same ↦ subst (λ k. LeavesHold b k (m.cells u)) (sym same) (keeps (m.cells u) (subst (λ k. LeavesHold a k (m.cells u)) same (of.contents u h)))
+      | inr (inl less) ↦ other u (λ is. omega arith) (of.contents u h)
+      | inr (inr more) ↦ other u (λ is. omega arith) (of.contents u h)
+    ]

@@ -6,7 +6,7 @@ use Rattle.block_tree.proofs.Leaves.{split_leaf, leaf_node, parent_node}
 use Rattle.regrid_move.specs.Near.{MayMove, IsNear}
 use Rattle.mesh_model.specs.declared.fields.values.Var.{Var}
 use Rattle.mesh_model.proofs.TreeLemmas.Tests.{refuted}
-use Rattle.std.proofs.Common.{◌≡◌, ◌≢◌, ℕ, ◌<◌, ◌⊎◌, true, false, List, length, ℤ, refl, sym, ap, ap₂, subst, ◌∙◌, arith, inl, inr}
+use Rattle.std.proofs.Common.{◌≡◌, ℕ, ◌<◌, false, List, ℤ, sym, ap, subst, ◌∙◌, arith, inl, inr}
 use Rattle.amr_num.specs.declared.BlockAt.{BlockAt}
 use Rattle.amr_num.specs.declared.CellAt.{CellAt}
 use Rattle.mesh_model.specs.declared.geometry.Shape.{Shape}
@@ -16,8 +16,7 @@ use Rattle.mesh_model.specs.Fields.ArrayPlaces.{HoldsViews, cell_extents, number
 use Rattle.mesh_model.specs.Tree.Kinds.{Grid, is_leaf_block, is_split_block}
 use Rattle.mesh_model.specs.Fields.Ranks.{IsSized, WorldState, IsFit, OnlyOf, Told}
 use Rattle.mesh_model.specs.Tree.ValidGrid.{Valid}
-use Rattle.mesh_model.proofs.FieldLemmas.BlockOctants.{child_parted, octant_summed, other_octant}
-use Rattle.block_tree.specs.Numbered.{IsNode, block_at, IsNumberOf}
+use Rattle.block_tree.specs.Numbered.{block_at, IsNumberOf}
 use Rattle.rank_world.specs.Holding.{IsLeafNode, cell_array, numbers_of}
 
 -- the numbers of an array that a new leaf has, in the old grid's shape

@@ -1,5 +1,5 @@
 -- Grids whose leaves lie near each other's, and worlds whose leaves hold what they are to hold.
-use Rattle.std.specs.Prelude.{◌≡◌, ℕ, ◌<◌, ◌⊎◌, ◌^◌, true, ℤ, length, Option, None, Some, if◌then◌else◌}
+use Rattle.std.specs.Prelude.{◌≡◌, ℕ, ◌<◌, ◌⊎◌, ◌^◌, ℤ, length, Option, None, Some, if◌then◌else◌}
 use Rattle.amr_num.specs.declared.BlockAt.{BlockAt}
 use Rattle.amr_num.specs.declared.CellAt.{CellAt}
 use Rattle.mesh_model.specs.Geometry.Blocks.{child_block, parent_block}
@@ -16,7 +16,7 @@ use Rattle.mesh_model.specs.declared.fields.spot.Spot.TheVariants as spots
 use Rattle.mesh_model.specs.Fields.Ranks.{IsFit, WorldState}
 use Rattle.mesh_model.specs.Fields.Views.{cell_view}
 use Rattle.block_tree.specs.Numbered.{block_at}
-use Rattle.rank_world.specs.Holding.{IsLeafNode, LeavesHold, LeavesInRange, numbers_of}
+use Rattle.rank_world.specs.Holding.{IsLeafNode, LeavesInRange, numbers_of}
 
 -- a block is a leaf of the old grid, or its parent is, or its eight children are
 pub record IsNear (old : Grid) (b : BlockAt) : Type 0 where

@@ -31,16 +31,10 @@ read_patch-requires g c =
     let is = subst (λ (s : Shape). IsPatch n e s b d p) shape c.patch_of-patch.ensures in (
       omega arith,
       (
-        c.requires.size,
+        c.requires.ready,
         (
-          c.requires.fit,
-          (
-            c.requires.variable,
-            (
-              patch_within n e grid.shape b d p c.requires.size c.requires.direction is,
-              (patch_known grid n e d b p valid (leaf_says grid b c.requires.leaf) is, c.requires.room),
-            ),
-          ),
+          patch_within n e grid.shape b d p c.requires.ready.size c.requires.direction is,
+          (patch_known grid n e d b p valid (leaf_says grid b c.requires.leaf) is, c.requires.room),
         ),
       ),
     )
@@ -54,4 +48,4 @@ returns g c =
     let p = c.patch_of-patch.result in
     let shape = c.shape-shape.ensures.value ∙ ap (λ (h : Grid). h.shape) c.tree.ensures in
     let is = subst (λ (s : Shape). IsPatch n e s b d p) shape c.patch_of-patch.ensures in
-    filled n e d c.args.world.now c.args.v b p c.args.room.now c.read_patch.new.room c.requires.direction c.requires.fit.sizes is c.read_patch.ensures
+    filled n e d c.args.world.now c.args.v b p c.args.room.now c.read_patch.new.room c.requires.direction c.requires.ready.fit.sizes is c.read_patch.ensures

@@ -1,4 +1,4 @@
-use Rattle.std.proofs.Common.{◌≡◌, ◌<◌, ◌∙◌, ap, arith, subst, sym, length, true, false, below_more}
+use Rattle.std.proofs.Common.{◌≡◌, ◌∙◌, ap, arith, subst, sym, length, true, false, below_more}
 use Rattle.mesh_model.specs.Tree.Kinds.{Grid, is_leaf_block}
 use Rattle.mesh_model.specs.Tree.Order.{nodes}
 use Rattle.mesh_model.specs.Fields.Ranks.{Told}
@@ -6,6 +6,7 @@ use Rattle.block_tree.specs.Numbered.{IsNode, block_at}
 use Rattle.rank_world.specs.Holding.{IsLeafNode}
 use Rattle.guard_fill.specs.Filling.{NodeGuarded}
 use Rattle.guard_fill.proofs.Filled.{one_filled, one_guarded}
+use Rattle.guard_fill.proofs.Restricted.{ready_after}
 use Rattle.guard_fill.proofs.filling.fill_variable.Goals as goal
 use Rattle.guard_fill.proofs.filling.fill_variable.Goals.{else-is_leaf, then-is_leaf}
 
@@ -31,11 +32,8 @@ fill_leaf-requires g c =
     } in (
       omega arith,
       (
-        c.requires.size,
-        (
-          c.loop-node.invariant.fit,
-          (subst (λ (t : Told). c.args.v < t.counts.cells) (sym told) c.requires.variable, (leaf, c.loop-node.auto.room ∙ c.requires.room)),
-        ),
+        ready_after g.row.N g.row.G now mid c.args.v c.requires.ready c.loop-node.invariant.fit told,
+        (leaf, c.loop-node.auto.room ∙ c.requires.room),
       ),
     )
 

@@ -11,7 +11,7 @@ use Rattle.guard_fill.proofs.filling.gather.Goals.{else-direction-ne-OWN_CELLS, 
 
 pub loop-direction-init : goal.loop-direction-init
 loop-direction-init g c =
-    none_gathered g.row.N g.row.G c.args.world.now c.args.v c.args.node c.requires.fit.sizes c.copy_from_slice.new.self (c.copy_from_slice.ensures.after ∙ c.values.ensures.value)
+    none_gathered g.row.N g.row.G c.args.world.now c.args.v c.args.node c.requires.ready.fit.sizes c.copy_from_slice.new.self (c.copy_from_slice.ensures.after ∙ c.values.ensures.value)
 
 pub fill_direction-requires : goal.fill_direction-requires
 fill_direction-requires g c =
@@ -19,7 +19,7 @@ fill_direction-requires g c =
     let block : c.at-block.result ≡ block_at grid c.args.node = c.at-block.ensures.value ∙ ap (λ (h : Grid). block_at h c.args.node) c.tree.ensures in
     let leaf : is_leaf_block grid c.at-block.result ≡ true = ap (is_leaf_block grid) block ∙ c.requires.leaf.leaf in
     let long : length c.loop-direction.room ≡ size_of (cell_extents g.row.N g.row.G) = c.loop-direction.auto.room ∙ c.copy_from_slice.ensures.len ∙ c.requires.room in
-    (omega arith, (c.requires.size, (c.requires.fit, (c.requires.variable, (leaf, (omega arith, long))))))
+    (omega arith, (c.requires.ready, (leaf, (omega arith, long))))
 
 pub loop-direction-preserved : goal.loop-direction-preserved
 loop-direction-preserved g c =
@@ -37,14 +37,14 @@ loop-direction-preserved g c =
           let new = p.fill_direction.new.room in
           let fill = subst (λ (b : BlockAt). IsFilled n e w v b d old new) block p.fill_direction.ensures in
           subst (IsGatheredTo n e w v node (d + 1)) (sym p.room-is)
-          (guards_gathered n e w v node c.requires.fit.sizes d old new p.if-direction-ne-OWN_CELLS.true c.loop-direction.invariant fill)
+          (guards_gathered n e w v node c.requires.ready.fit.sizes d old new p.if-direction-ne-OWN_CELLS.true c.loop-direction.invariant fill)
       | else-direction-ne-OWN_CELLS p ↦
           let last : d ≡ 13 = p.if-direction-ne-OWN_CELLS.false in
           let inside : InDomain grid.shape (block_at grid node) =
           subst (InDomain grid.shape) block (subst (λ (h : Grid). InDomain h.shape c.at-block.result) c.tree.ensures c.at-block.ensures.inside) in
           subst (IsGatheredTo n e w v node (d + 1)) (sym p.room-is)
           (subst (λ m. IsGatheredTo n e w v node (m + 1) old) (sym last)
-          (own_gathered n e w v node c.requires.fit.sizes old inside c.requires.leaf.there (subst (λ m. IsGatheredTo n e w v node m old) last c.loop-direction.invariant)))
+          (own_gathered n e w v node c.requires.ready.fit.sizes old inside c.requires.leaf.there (subst (λ m. IsGatheredTo n e w v node m old) last c.loop-direction.invariant)))
     ]
 
 pub returns : goal.returns

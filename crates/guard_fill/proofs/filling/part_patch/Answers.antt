@@ -36,5 +36,5 @@ returns g c =
     (λ content holds i j k hi hj hk.
     let views : HoldsViews grid content (block_at grid leaf) (cells_of grid xs) =
     subst (λ (ys : List ℤ). HoldsViews grid content (block_at grid leaf) (cells_of grid ys)) (sym c.values-values.ensures.value) (holds leaf found.there) in
-    parts_at grid n e content (block_at grid leaf) xs c.requires.fit.sizes views q valid (omega arith) whole i j k hi hj hk
+    parts_at grid n e content (block_at grid leaf) xs c.requires.ready.fit.sizes views q valid (omega arith) whole i j k hi hj hk
     ∙ ap (λ u. cell_view grid content (in_block n u i j k)) child)

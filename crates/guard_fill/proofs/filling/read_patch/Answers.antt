@@ -12,16 +12,7 @@ pub part_patch-requires : goal.part_patch-requires
 part_patch-requires g c =
     let none = subst (λ (h : Grid). IsIn (block_of c.args.level c.args.patch) (nodes h.leaves) → ⊥) c.tree.ensures c.in-None.ensures in (
       omega arith,
-      (
-        c.requires.size,
-        (
-          c.requires.fit,
-          (
-            c.requires.variable,
-            (c.requires.within, (refl, (elim c.requires.known.which [ inl here ↦ absurd (none here) | inr up ↦ up ], c.requires.room))),
-          ),
-        ),
-      ),
+      (c.requires.ready, (c.requires.within, (refl, (elim c.requires.known.which [ inl here ↦ absurd (none here) | inr up ↦ up ], c.requires.room)))),
     )
 
 pub returns-in-Some : goal.returns-in-Some
@@ -38,6 +29,6 @@ returns-in-Some g c =
     let xs = c.values-values.result.now in
     patched n e w v c.args.level p (inner e (number_at (cell_extents n e) xs)) c.args.room.now c.copy_strip.new.room c.requires.within c.copy_strip.ensures
     (λ content holds.
-    views_at grid n e content b xs c.requires.fit.sizes
+    views_at grid n e content b xs c.requires.ready.fit.sizes
     (subst (λ u. HoldsViews grid content u (cells_of grid xs)) found.block
     (subst (λ (ys : List ℤ). HoldsViews grid content (block_at grid node) (cells_of grid ys)) (sym c.values-values.ensures.value) (holds node found.there))))

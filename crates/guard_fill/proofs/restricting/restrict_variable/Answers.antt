@@ -17,7 +17,7 @@ use Rattle.block_tree.proofs.Later.{child_later}
 use Rattle.block_tree.proofs.Numbers.{splits}
 use Rattle.rank_world.specs.Holding.{IsLeafNode, LeavesHold, NodeHolds, cell_array}
 use Rattle.guard_fill.specs.Restricting.{ChildrenHold, HoldSmallField, OnlyParents, SplitViewsAreSmall}
-use Rattle.guard_fill.proofs.Restricted.{node_along, parents_step, sums_small}
+use Rattle.guard_fill.proofs.Restricted.{node_along, parents_step, ready_after, sums_small}
 use Rattle.guard_fill.proofs.restricting.restrict_variable.Goals as goal
 
 -- what is known of a node that is reached
@@ -68,20 +68,14 @@ restrict_node-requires g c =
     let told = only.only.told in (
       omega arith,
       (
-        c.requires.size,
+        ready_after g.row.N g.row.G now mid v c.requires.ready c.loop-node.invariant.fit told,
         (
-          c.loop-node.invariant.fit,
+          subst (λ (t : Told). IsNode t.grid node) (sym told) there,
           (
-            subst (λ (t : Told). v < t.counts.cells) (sym told) c.requires.variable,
+            inner_mid now mid v node tree grid only there inner,
             (
-              subst (λ (t : Told). IsNode t.grid node) (sym told) there,
-              (
-                inner_mid now mid v node tree grid only there inner,
-                (
-                  c.loop-node.auto.room ∙ c.requires.room,
-                  children_small now mid v node tree grid only there inner done g.row.N g.row.G c.requires.field c.loop-node.invariant.fit.sizes,
-                ),
-              ),
+              c.loop-node.auto.room ∙ c.requires.room,
+              children_small now mid v node tree grid only there inner done g.row.N g.row.G c.requires.field c.loop-node.invariant.fit.sizes,
             ),
           ),
         ),

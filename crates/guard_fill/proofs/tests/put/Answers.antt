@@ -1,11 +1,10 @@
-use Rattle.std.proofs.Common.{◌≡◌, ◌+◌, ◌*◌, ◌^◌, ◌∙◌, ap, arith, get_or, set, subst, sym, List, ℤ, to_z, of_z, w64}
+use Rattle.std.proofs.Common.{◌+◌, ◌*◌, ◌^◌, arith, get_or, set, subst, sym, List, ℤ, to_z, of_z, w64}
 use Rattle.std.proofs.lemmas.Int.{ints}
 use Rattle.amr_num.specs.Numbers.{Within}
-use Rattle.amr_num.proofs.Machine.{kept}
 use Rattle.mesh_model.specs.declared.fields.values.Var.TheVariants.{Cell}
 use Rattle.mesh_model.specs.Fields.Ranks.{world_with}
 use Rattle.mesh_model.specs.Tree.Kinds.{Grid}
-use Rattle.block_tree.specs.Numbered.{IsNode, IsNumberOf}
+use Rattle.block_tree.specs.Numbered.{IsNumberOf}
 use Rattle.guard_fill.specs.Trials.{IsTrial}
 use Rattle.guard_fill.proofs.TrialWorlds.{put_trial}
 use Rattle.guard_fill.proofs.tests.put.Goals as goal

@@ -1,9 +1,7 @@
-use Rattle.std.proofs.Common.{◌≡◌, ◌<◌, ◌⊎◌, ap, length, subst, sym, ◌∙◌, List, ℤ}
+use Rattle.std.proofs.Common.{◌≡◌, ◌<◌, ◌⊎◌, length, subst, sym, ◌∙◌, List, ℤ}
 use Rattle.mesh_model.specs.Fields.Ranks.{world_with}
-use Rattle.mesh_model.specs.declared.geometry.Shape.{Shape}
 use Rattle.mesh_model.specs.declared.fields.values.Var.TheVariants.{Cell}
 use Rattle.mesh_model.specs.Fields.Arrays.{Counts, var_length}
-use Rattle.mesh_model.specs.Geometry.Blocks.{child_block}
 use Rattle.mesh_model.specs.Fields.Octants.{SumsAreSmall, IsRestricted, OctantHolds, cells_of}
 use Rattle.mesh_model.specs.Fields.ArrayPlaces.{HoldsViews, cell_extents, number_at}
 use Rattle.mesh_model.specs.Tree.ValidGrid.{Valid}
