@@ -1,12 +1,13 @@
 -- The contents of a block's cells after a step, from the fluxes through their faces, by the cells' coordinates in the block.
-use Rattle.std.specs.Prelude.{ℕ, ◌+◌, ◌^◌, ◌<◌, Bool, false, List, ℤ, pos, ◌+ℤ◌, ◌-ℤ◌, Option, Some, None, if◌then◌else◌, slice_index_or}
+use Rattle.std.specs.Prelude.{◌≡◌, ℕ, ◌+◌, ◌^◌, ◌<◌, Bool, false, List, ℤ, pos, ◌+ℤ◌, ◌-ℤ◌, Option, Some, None, if◌then◌else◌, length, slice_index_or}
 use Rattle.amr_num.specs.Numbers.{Within, at, number_range, sum_below}
 use Rattle.amr_num.specs.declared.Axis.{Axis}
 use Rattle.amr_num.specs.declared.Axis.TheVariants.{X, Y, Z}
-use Rattle.mesh_model.specs.Fields.ArrayPlaces.{IsWritten, cell_extents, face_extents, interior, number_at}
+use Rattle.mesh_model.specs.Fields.ArrayPlaces.{IsWritten, cell_extents, face_extents, interior, number_at, size_of}
 use Rattle.mesh_model.specs.Fields.Firsts.{first_in_box}
 use Rattle.mesh_model.specs.Fields.RangeWalk.{is_above}
 use Rattle.step_advect.specs.declared.update.RangeAt.{RangeAt}
+use Rattle.step_advect.specs.Fluxed.{AreFacesWithin}
 
 -- numbers by places, counted from a block's first cell on
 abbrev pub inner : ℕ → (ℕ → ℕ → ℕ → ℤ) → ℕ → ℕ → ℕ → ℤ
@@ -55,6 +56,21 @@ first_out n cells = first_in_box n (range_at cells)
 -- all of them are in range
 pub record AreInRange (n : ℕ) (cells : ℕ → ℕ → ℕ → ℤ) : Type 0 where
   pub at : (i j k : ℕ) → i < n → j < n → k < n → Within number_range (cells i j k)
+
+-- ---- arrays
+
+-- the array of a block's faces normal to an axis, with numbers that can be summed over a side
+pub record AreFluxes (n g : ℕ) (a : Axis) (faces : List ℤ) : Type 0 where
+  pub whole : length faces ≡ size_of (face_extents n g a)
+  pub small : AreFacesWithin (2 ^ 58) n g a (number_at (face_extents n g a) faces)
+
+-- the arrays from which a step is made: of a block's cells, in range, and of its faces normal to each axis
+pub record AreStepArrays (n g : ℕ) (cells fx fy fz : List ℤ) : Type 0 where
+  pub whole : length cells ≡ size_of (cell_extents n g)
+  pub in_range : AreInRange n (inner g (number_at (cell_extents n g) cells))
+  pub along_x : AreFluxes n g X fx
+  pub along_y : AreFluxes n g Y fy
+  pub along_z : AreFluxes n g Z fz
 
 -- ---- what flows out
 

@@ -1,5 +1,5 @@
 -- Fluxes through the faces of a block normal to an axis, from the numbers of its cells with their guards, by places.
-use Rattle.std.specs.Prelude.{ℕ, ◌+◌, ◌-◌, ◌<◌, Bool, ◌&&◌, ◌||◌, ◌==◌, List, ℤ, pos, if◌then◌else◌}
+use Rattle.std.specs.Prelude.{ℕ, ◌+◌, ◌-◌, ◌*◌, ◌^◌, ◌<◌, ◌≤◌, Bool, ◌&&◌, ◌||◌, ◌==◌, List, ℤ, pos, if◌then◌else◌, unsigned_abs}
 use Rattle.amr_num.specs.Numbers.{Within, carry}
 use Rattle.amr_num.specs.declared.Axis.{Axis}
 use Rattle.amr_num.specs.declared.Axis.TheVariants.{X, Y, Z}
@@ -35,6 +35,11 @@ pub record Flow : Type 0 where
   pub speed : ℤ
   pub closed_low : Bool
   pub closed_high : Bool
+
+-- the level is one of a mesh, and the speed moves at most one cell of it a step
+pub record IsSlow (f : Flow) : Type 0 where
+  pub level : f.level ≤ 10
+  pub speed : unsigned_abs f.speed * 2 ^ f.level ≤ 2 ^ 20
 
 -- as the code has it
 abbrev pub flow_of : FlowAlong → Flow

@@ -7,7 +7,7 @@ ghost use Rattle.mesh_model.specs.Geometry.Coordinates as coordinates;
 ghost use Rattle.mesh_model.specs.Geometry.Places.{longer_on};
 ghost use Rattle.std.specs.Prelude.{◌≡◌, ℕ, ◌+◌, ◌*◌, ◌/◌, ◌%◌, ◌^◌, ◌<◌, ◌≤◌, length, unsigned_abs};
 ghost use Rattle.step_advect.specs.Fluxed as fluxed;
-ghost use Rattle.step_advect.specs.Fluxed.{AreFacesWithin, AreSidesWithin, IsFluxed, block_faces, donor_at, flow_of, flux_at};
+ghost use Rattle.step_advect.specs.Fluxed.{AreFacesWithin, AreSidesWithin, IsFluxed, IsSlow, block_faces, donor_at, flow_of, flux_at};
 
 use amr_num::{Axis, carry};
 use block_store::{Cells, Extents, place, row};
@@ -72,8 +72,7 @@ fn flux_from(
     j: usize,
     k: usize,
 ) -> i64
-    requires level { flow.now.level ≤ 10 }
-    requires speed { unsigned_abs flow.now.speed * 2 ^ flow.now.level ≤ 2 ^ 20 }
+    requires slow { IsSlow (flow_of flow.now) }
     requires inside { t < length donors.now }
     requires small { Within (2 ^ 56) (at donors.now t) }
     ensures { result ≡ fluxed.flux_from n axis (flow_of flow.now) (at donors.now t) t j k }
@@ -124,8 +123,7 @@ fn flux_donors(
     k: usize,
     out: &mut [i64],
 )
-    requires level { flow.now.level ≤ 10 }
-    requires speed { unsigned_abs flow.now.speed * 2 ^ flow.now.level ≤ 2 ^ 20 }
+    requires slow { IsSlow (flow_of flow.now) }
     requires donors { length donors.now ≡ length out.old }
     requires small { (t : ℕ) → t < length out.old → Within (2 ^ 56) (at donors.now t) }
     ensures size { length out.new ≡ length out.old }
@@ -149,8 +147,7 @@ fn flux_row(
 )
     requires size { IsSize n g }
     requires cells { length cells.now ≡ size_of (cell_extents n g) }
-    requires level { flow.now.level ≤ 10 }
-    requires speed { unsigned_abs flow.now.speed * 2 ^ flow.now.level ≤ 2 ^ 20 }
+    requires slow { IsSlow (flow_of flow.now) }
     requires small { AreSidesWithin (2 ^ 56) n g axis (number_at (cell_extents n g) cells.now) }
     requires out { length out.old ≡ size_of (face_extents n g axis) }
     requires row { m < longer_on axis Y n * longer_on axis Z n }
@@ -172,8 +169,7 @@ fn flux_row(
 fn flux_faces(n: usize, g: usize, cells: &[i64], axis: Axis, flow: &FlowAlong, out: &mut [i64])
     requires size { IsSize n g }
     requires cells { length cells.now ≡ size_of (cell_extents n g) }
-    requires level { flow.now.level ≤ 10 }
-    requires speed { unsigned_abs flow.now.speed * 2 ^ flow.now.level ≤ 2 ^ 20 }
+    requires slow { IsSlow (flow_of flow.now) }
     requires small { AreSidesWithin (2 ^ 56) n g axis (number_at (cell_extents n g) cells.now) }
     requires out { length out.old ≡ size_of (face_extents n g axis) }
     ensures fluxes { IsFluxed n g axis (flow_of flow.now) cells.now out.old out.new }

@@ -5,8 +5,7 @@ ghost use Rattle.amr_num.specs.declared.Axis.TheVariants.{X, Y, Z};
 ghost use Rattle.mesh_model.specs.Fields.ArrayPlaces.{IsRowWritten, IsSize, cell_extents, face_extents, interior, number_at, row_of, size_of};
 ghost use Rattle.std.specs.Prelude.{◌≡◌, ℕ, ◌+◌, ◌*◌, ◌/◌, ◌%◌, ◌^◌, ◌<◌, ◌≤◌, ◌+ℤ◌, ◌-ℤ◌, IfErr, IfOk, Some, if◌then◌else◌, length, pos};
 ghost use Rattle.step_advect.specs.Applied as applied;
-ghost use Rattle.step_advect.specs.Applied.{AreInRange, AreRowsSmall, IsApplied, first_out, flows_in, inner, left_at, out_along, out_through};
-ghost use Rattle.step_advect.specs.Fluxed.{AreFacesWithin};
+ghost use Rattle.step_advect.specs.Applied.{AreFluxes, AreInRange, AreRowsSmall, AreStepArrays, IsApplied, first_out, flows_in, inner, left_at, out_along, out_through};
 
 use amr_num::Axis;
 use block_store::{Above, Extents, block_above, cell_row, place, row};
@@ -138,15 +137,8 @@ fn apply_row(
     m: usize,
 )
     requires size { IsSize n g }
-    requires cells { length cells.now ≡ size_of (cell_extents n g) }
-    requires fx { length fx.now ≡ size_of (face_extents n g X) }
-    requires fy { length fy.now ≡ size_of (face_extents n g Y) }
-    requires fz { length fz.now ≡ size_of (face_extents n g Z) }
+    requires arrays { AreStepArrays n g cells.now fx.now fy.now fz.now }
     requires out { length out.old ≡ size_of (cell_extents n g) }
-    requires in_range { AreInRange n (inner g (number_at (cell_extents n g) cells.now)) }
-    requires small_x { AreFacesWithin (2 ^ 58) n g X (number_at (face_extents n g X) fx.now) }
-    requires small_y { AreFacesWithin (2 ^ 58) n g Y (number_at (face_extents n g Y) fy.now) }
-    requires small_z { AreFacesWithin (2 ^ 58) n g Z (number_at (face_extents n g Z) fz.now) }
     requires row { m < n * n }
     ensures { IsRowWritten (row_of (cell_extents n g) (interior n g) m) n (λ t. left_at (flows_in n g cells.now fx.now fy.now fz.now) t (m % n) (m / n)) out.old out.new }
 {
@@ -178,15 +170,8 @@ fn apply_cells(
     out: &mut [i64],
 )
     requires size { IsSize n g }
-    requires cells { length cells.now ≡ size_of (cell_extents n g) }
-    requires fx { length fx.now ≡ size_of (face_extents n g X) }
-    requires fy { length fy.now ≡ size_of (face_extents n g Y) }
-    requires fz { length fz.now ≡ size_of (face_extents n g Z) }
+    requires arrays { AreStepArrays n g cells.now fx.now fy.now fz.now }
     requires out { length out.old ≡ size_of (cell_extents n g) }
-    requires in_range { AreInRange n (inner g (number_at (cell_extents n g) cells.now)) }
-    requires small_x { AreFacesWithin (2 ^ 58) n g X (number_at (face_extents n g X) fx.now) }
-    requires small_y { AreFacesWithin (2 ^ 58) n g Y (number_at (face_extents n g Y) fy.now) }
-    requires small_z { AreFacesWithin (2 ^ 58) n g Z (number_at (face_extents n g Z) fz.now) }
     ensures { IsApplied n g (flows_in n g cells.now fx.now fy.now fz.now) out.old out.new }
 {
     for m in 0..n * n {
@@ -216,8 +201,7 @@ fn face_on(
     v: usize,
 ) -> i64
     requires size { IsSize n g }
-    requires faces { length faces.now ≡ size_of (face_extents n g axis) }
-    requires small { AreFacesWithin (2 ^ 58) n g axis (number_at (face_extents n g axis) faces.now) }
+    requires faces { AreFluxes n g axis faces.now }
     requires inside { (position < n + 1) × (u < n) × (v < n) }
     ensures value { result ≡ applied.face_on axis (inner g (number_at (face_extents n g axis) faces.now)) position u v }
     ensures size { Within (2 ^ 58) result }
@@ -235,8 +219,7 @@ fn face_on(
 #[inline]
 fn line_sum(n: usize, g: usize, axis: Axis, faces: &[i64], position: usize, v: usize) -> i128
     requires size { IsSize n g }
-    requires faces { length faces.now ≡ size_of (face_extents n g axis) }
-    requires small { AreFacesWithin (2 ^ 58) n g axis (number_at (face_extents n g axis) faces.now) }
+    requires faces { AreFluxes n g axis faces.now }
     requires inside { (position < n + 1) × (v < n) }
     ensures value { result ≡ sum_below n (λ u. applied.face_on axis (inner g (number_at (face_extents n g axis) faces.now)) position u v) }
     ensures size { Within (n * 2 ^ 58) result }
@@ -252,8 +235,7 @@ fn line_sum(n: usize, g: usize, axis: Axis, faces: &[i64], position: usize, v: u
 #[inline]
 fn side_sum(n: usize, g: usize, axis: Axis, faces: &[i64], position: usize) -> i128
     requires size { IsSize n g }
-    requires faces { length faces.now ≡ size_of (face_extents n g axis) }
-    requires small { AreFacesWithin (2 ^ 58) n g axis (number_at (face_extents n g axis) faces.now) }
+    requires faces { AreFluxes n g axis faces.now }
     requires inside { position < n + 1 }
     ensures value { result ≡ applied.side_sum n axis (inner g (number_at (face_extents n g axis) faces.now)) position }
     ensures size { Within (2 ^ 64) result }
@@ -269,8 +251,7 @@ fn side_sum(n: usize, g: usize, axis: Axis, faces: &[i64], position: usize) -> i
 #[inline]
 fn chosen_sum(n: usize, g: usize, axis: Axis, faces: &[i64], position: usize, chosen: bool) -> i128
     requires size { IsSize n g }
-    requires faces { length faces.now ≡ size_of (face_extents n g axis) }
-    requires small { AreFacesWithin (2 ^ 58) n g axis (number_at (face_extents n g axis) faces.now) }
+    requires faces { AreFluxes n g axis faces.now }
     requires inside { position < n + 1 }
     ensures value { result ≡ (if chosen then applied.side_sum n axis (inner g (number_at (face_extents n g axis) faces.now)) position else pos 0) }
     ensures size { Within (2 ^ 64) result }
@@ -286,8 +267,7 @@ fn chosen_sum(n: usize, g: usize, axis: Axis, faces: &[i64], position: usize, ch
 #[inline]
 fn outflow(n: usize, g: usize, axis: Axis, faces: &[i64], low: bool, high: bool) -> i128
     requires size { IsSize n g }
-    requires faces { length faces.now ≡ size_of (face_extents n g axis) }
-    requires small { AreFacesWithin (2 ^ 58) n g axis (number_at (face_extents n g axis) faces.now) }
+    requires faces { AreFluxes n g axis faces.now }
     ensures value { result ≡ out_along n axis (inner g (number_at (face_extents n g axis) faces.now)) low high }
     ensures size { Within (2 ^ 65) result }
 {
@@ -309,15 +289,8 @@ pub fn apply<const N: usize, const G: usize>(
     out: &mut [i64],
 ) -> Result<i128, RangeAt>
     requires size { IsSize N G }
-    requires cells { length cells.now ≡ size_of (cell_extents N G) }
-    requires fx { length fx.now ≡ size_of (face_extents N G X) }
-    requires fy { length fy.now ≡ size_of (face_extents N G Y) }
-    requires fz { length fz.now ≡ size_of (face_extents N G Z) }
+    requires arrays { AreStepArrays N G cells.now fx.now fy.now fz.now }
     requires out { length out.old ≡ size_of (cell_extents N G) }
-    requires in_range { AreInRange N (inner G (number_at (cell_extents N G) cells.now)) }
-    requires small_x { AreFacesWithin (2 ^ 58) N G X (number_at (face_extents N G X) fx.now) }
-    requires small_y { AreFacesWithin (2 ^ 58) N G Y (number_at (face_extents N G Y) fy.now) }
-    requires small_z { AreFacesWithin (2 ^ 58) N G Z (number_at (face_extents N G Z) fz.now) }
     ensures left { IfOk result (λ flown. IsApplied N G (flows_in N G cells.now fx.now fy.now fz.now) out.old out.new) }
     ensures in_range { IfOk result (λ flown. AreInRange N (left_at (flows_in N G cells.now fx.now fy.now fz.now))) }
     ensures flown { IfOk result (λ flown. flown ≡ out_through N (flows_in N G cells.now fx.now fy.now fz.now) outer) }

@@ -32,5 +32,5 @@ returns-clause-size c most small =
     let n = c.args.n in
     let g = c.args.g in
     let a = c.args.axis in
-    fluxes_within most n g a (flow_of c.args.flow.now) (number_at (cell_extents n g) c.args.cells.now) (number_at (face_extents n g a) c.loop-m.out) c.requires.speed small
+    fluxes_within most n g a (flow_of c.args.flow.now) (number_at (cell_extents n g) c.args.cells.now) (number_at (face_extents n g a) c.loop-m.out) c.requires.slow.speed small
     ((returns-clause-fluxes c).written)
