@@ -1,6 +1,7 @@
 -- What a command does, as one fact.
 use Rattle.std.proofs.Common.{◌≡◌, ◌≢◌, ℕ, List, [], Option, None, Some, Result, MatchResult, append-nil, Ok, Err, refl, sym, ap, subst, ◌∙◌}
 use Rattle.mesh_model.specs.declared.language.script.Command.{Command}
+use Rattle.mesh_model.specs.declared.run.stops.Refusal.{Refusal}
 use Rattle.mesh_model.specs.Fields.Plain.{Mesh}
 use Rattle.mesh_model.specs.Run.Runs.{TheSink, mesh_after, needs, text_of}
 use Rattle.mesh_model.specs.Run.Stops.{refusal}
@@ -45,3 +46,9 @@ pub acts_printing : (printed : Result (Unit {0}) Failed) (result : Result (Unit 
     Prints printed w.before (text_of m is) w.after w.faults w.new_faults → MatchResult printed (λ done. result ≡ Ok tt) (λ failed. result ≡ Err causes.WriteFault) → after ≡ m → Acts result m command after w
 acts_printing (Ok done) result m after command is w e sink none same prints told stays = subst (λ k. Acts result m k after w) (sym e) (subst (λ r. Acts r m is after w) (sym told) (none, stays ∙ sym same, record { takes = prints.0; calm = prints.1 }))
 acts_printing (Err failed) result m after command is w e sink none same prints told stays = subst (λ k. Acts result m k after w) (sym e) (subst (λ r. Acts r m is after w) (sym told) (stays, ((sink, none), record { takes = prints.0; rose = prints.1 })))
+
+-- a command that the mesh refuses
+pub acts_refused : (cause : Cause) (why : Refusal) (m : Mesh) (command is : Command) (taken : Option (List ℕ)) (faults : ℕ) → command ≡ is → stopped_by cause ≡ by.Mesh why → refusal m is ≡ Some why → Acts (Err cause) m command m (quiet taken faults)
+acts_refused cause why m command is taken faults e stopped refused =
+    subst (λ k. Acts (Err cause) m k m (quiet taken faults)) (sym e)
+    (refl, (subst (λ s. MayStop s m is) (sym stopped) refused, subst (λ s. Leaves s (text_of m is) (quiet taken faults)) (sym stopped) (record { taken = refl; calm = refl })))

@@ -25,7 +25,7 @@ use Rattle.amr_engine.specs.declared.hindrance.Hindrance.{Hindrance}
 use Rattle.amr_engine.specs.declared.hindrance.Hindrance.TheVariants.{Content, FlowedOut, TooFast}
 use Rattle.amr_engine.proofs.Advected.{content_refused, not_refused, out_refused, outs_set, too_fast}
 use Rattle.amr_engine.proofs.Machine.{kept_128, wide}
-use Rattle.amr_engine.proofs.Made.{laid_after, of_now, out_now, out_small}
+use Rattle.amr_engine.proofs.Made.{laid_after, of_now, out_now, out_small, same_mesh}
 use Rattle.amr_engine.proofs.Shown.{mesh_shown}
 
 near_enough : (z : ℤ) → is_above (2 ^ 100) z ≡ false → Within (2 ^ 100) z
@@ -95,13 +95,7 @@ module _ (names : VariableNames) (w : WorldState) (outs : List ℤ) (marks : Mar
           }
 
     -- or hindered, which leaves the mesh
-    same_mesh : IsOfMesh new now → mesh_of names new outs marks ≡ now
-    unfolding mesh_of
-    same_mesh of =
-        mesh_shown names new outs marks now of valid refl laid.face laid.edge (λ u. refl)
-        (λ b. ap (λ (t : Told). refine_of t.grid marks b) told) (λ b. ap (λ (t : Told). derefine_of t.grid marks b) told)
-
     pub hindered : (hindrance : Hindrance) → Steps now var speeds new (Err hindrance) → Changes (Err (cause_told var speeds hindrance)) now (Advect var speeds) (mesh_of names new outs marks)
-    hindered TooFast steps = (too_fast now var speeds valid named steps.0, same_mesh steps.1)
-    hindered (Content above) steps = (content_refused now var speeds valid named steps.0 above steps.1 steps.2, same_mesh steps.3)
-    hindered (FlowedOut out) steps = (out_refused now var speeds valid named steps.0 out steps.1 steps.2, same_mesh steps.3)
+    hindered TooFast steps = (too_fast now var speeds valid named steps.0, same_mesh names w outs marks laid valid new told steps.1)
+    hindered (Content above) steps = (content_refused now var speeds valid named steps.0 above steps.1 steps.2, same_mesh names w outs marks laid valid new told steps.3)
+    hindered (FlowedOut out) steps = (out_refused now var speeds valid named steps.0 out steps.1 steps.2, same_mesh names w outs marks laid valid new told steps.3)

@@ -110,6 +110,13 @@ module _ (names : VariableNames) (w : WorldState) (outs : List ℤ) (marks : Mar
     room = laid.room ∙ sym (ap (λ (t : Told). most_nodes t.grid.shape) told);
   }
 
+  -- a world of the same mesh
+  pub same_mesh : (new : WorldState) → new.told ≡ w.told → IsOfMesh new now → mesh_of names new outs marks ≡ now
+  unfolding mesh_of
+  same_mesh new told of =
+      mesh_shown names new outs marks now of valid refl laid.face laid.edge (λ u. refl)
+      (λ b. ap (λ (t : Told). refine_of t.grid marks b) told) (λ b. ap (λ (t : Told). derefine_of t.grid marks b) told)
+
   -- a variable is filled
   module _ (var : ℕ) (fill : Fill) (new : WorldState) (there : var < length names.cells) (only : OnlyCells w new var) (is : AreLeavesFilled w new var fill) where
     filled_holds : (v : ℕ) → v < w.told.counts.cells → LeavesHold new v ((filled now var fill).cells v)

@@ -7,9 +7,9 @@ ghost use Rattle.std.specs.Prelude.{◌≡◌};
 
 use mesh_model::language::script::{Command, Declared, Line, Script};
 
-/// Whether the command is built under these declarations.
-fn is_built_command(declared: &Declared, command: Command) -> bool
-    ensures { result ≡ plain.is_built_command declared.now command }
+/// Whether the command is built.
+fn is_built_command(command: Command) -> bool
+    ensures { result ≡ plain.is_built_command command }
 {
     match command {
         Command::MarkRefine { .. } => true,
@@ -23,6 +23,7 @@ fn is_built_command(declared: &Declared, command: Command) -> bool
         Command::PrintTree => true,
         Command::FillAll { .. } => true,
         Command::FillBox { .. } => true,
+        Command::PrintGuards { .. } => true,
         Command::PrintVar { .. } => true,
         Command::Total { .. } => true,
         _ => false,
@@ -37,13 +38,13 @@ fn is_built_mesh(declared: &Declared) -> bool
     declared.names.face().is_none() && declared.names.edge().is_none()
 }
 
-/// Whether all commands of the lines are built under these declarations.
-fn are_built(declared: &Declared, lines: &[Line]) -> bool
-    ensures { result ≡ list_all (λ line. plain.is_built_command declared.now line.command) lines.now }
+/// Whether all commands of the lines are built.
+fn are_built(lines: &[Line]) -> bool
+    ensures { result ≡ list_all (λ line. plain.is_built_command line.command) lines.now }
 {
     lines
         .iter()
-        .all(|line| is_built_command(declared, line.command))
+        .all(|line| is_built_command(line.command))
 }
 
 /// Whether all that the script asks for is built, for so many ranks and workers. What is not built is
@@ -55,5 +56,5 @@ pub fn built(script: &Script, ranks: u32, workers: u32) -> bool
     is_built_mesh(&script.declared)
         && ranks <= 1
         && workers <= 1
-        && are_built(&script.declared, &script.lines)
+        && are_built(&script.lines)
 }

@@ -7,9 +7,10 @@ use crate::marking::{Where, mark_where};
 use crate::region::{CellBox, Fill, Region};
 use crate::totals::total;
 use amr_num::{BlockAt, OutOfMemory};
-use amr_report::{print_mesh, print_size, print_total, print_tree, print_var};
+use amr_report::{print_guards, print_mesh, print_size, print_total, print_tree, print_var};
 use block_store::Layout;
 use block_tree::Marks;
+use guard_fill::{fill, restrict_all};
 use mesh_model::Group;
 use mesh_model::language::names::Names;
 use mesh_model::language::script::{Command, Declared, Line};
@@ -71,6 +72,7 @@ impl<const N: usize, const G: usize> Engine<N, G> {
     ghost use Rattle.mesh_model.specs.Language.Commands.{AreThree, IsCellVariable, IsCommandOf, IsGroup, IsLeafNumber, IsLineOf, IsPlace};
     ghost use Rattle.mesh_model.specs.Geometry.Limits.{IsShape};
     ghost use Rattle.mesh_model.specs.Fields.Ranks.{IsSized};
+    ghost use Rattle.guard_fill.specs.Filling.{LeavesGuarded};
     ghost use Rattle.rank_world.specs.Holding.{IsOfMesh};
     ghost use Rattle.mesh_model.specs.Run.Runs.{KeepsOuts, KeepsTotals, StaysPositive, mesh_after, text_of};
     ghost use Rattle.mesh_model.specs.Fields.Start.{start_mesh};
@@ -130,7 +132,7 @@ impl<const N: usize, const G: usize> Engine<N, G> {
         disk: &mut D,
     ) -> Result<(), Stop>
         requires fits { IsLineOf (declared_of self.old) line.now }
-        requires built { IsBuiltLine (declared_of self.old) line.now }
+        requires built { IsBuiltLine line.now }
         ensures mesh { OnOk result (plain self.new ≡ mesh_after (plain self.old) line.now.command) }
         ensures text { OnOk result (Takes (K.taken sink.old) (text_of (plain self.old) line.now.command) (K.taken sink.new)) }
         ensures calm { OnOk result (K.faults sink.new ≡ K.faults sink.old) }
@@ -164,7 +166,7 @@ impl<const N: usize, const G: usize> Engine<N, G> {
     /// Does a command.
     fn act<K: Sink>(&mut self, command: Command, sink: &mut K) -> Result<(), Cause>
         requires fits { IsCommandOf (declared_of self.old) command }
-        requires built { is_built_command (declared_of self.old) command ≡ true }
+        requires built { is_built_command command ≡ true }
         ensures acts { Acts result (plain self.old) command (plain self.new) (record { before = K.taken sink.old; after = K.taken sink.new; faults = K.faults sink.old; new_faults = K.faults sink.new }) }
         ensures declared { declared_of self.new ≡ declared_of self.old }
     {
@@ -200,6 +202,7 @@ impl<const N: usize, const G: usize> Engine<N, G> {
             Command::PrintSize => written(print_size(sink, self.world.tree())),
             Command::PrintMesh => written(print_mesh(sink, self.world.tree())),
             Command::PrintTree => written(print_tree(sink, self.world.tree())),
+            Command::PrintGuards { group, at } => self.print_guards(group, at, sink),
             Command::PrintVar { group } => written(self.print_variable(group, sink)),
             Command::Total { var } => written(self.print_total(var, sink)),
             _ => unreachable!(),
@@ -309,6 +312,43 @@ impl<const N: usize, const G: usize> Engine<N, G> {
             ),
             Group::Face | Group::Edge => unreachable!(),
         }
+    }
+
+    /// Fills the guard cells of the variable in all leaves. No content changes.
+    fn fill_guards(&mut self, var: u32)
+        requires variable { IsCellVariable (declared_of self.old).names var }
+        ensures mesh { plain self.new ≡ plain self.old }
+        ensures told { self.new.world.told ≡ self.old.world.told }
+        ensures guards { LeavesGuarded self.new.world var ((plain self.old).cells var) }
+        ensures declared { declared_of self.new ≡ declared_of self.old }
+    {
+        restrict_all(&mut self.world, Group::Cell(var));
+        fill(&mut self.world, Group::Cell(var));
+    }
+
+    /// Prints the numbers of a variable in and round a leaf.
+    fn print_guards<K: Sink>(&mut self, group: Group, at: BlockAt, sink: &mut K) -> Result<(), Cause>
+        requires { IsGroup (declared_of self.old).names group }
+        ensures acts { Acts result (plain self.old) (Command.PrintGuards group at) (plain self.new) (record { before = K.taken sink.old; after = K.taken sink.new; faults = K.faults sink.old; new_faults = K.faults sink.new }) }
+        ensures declared { declared_of self.new ≡ declared_of self.old }
+    {
+        let var = match group {
+            Group::Cell(var) => var,
+            Group::Face | Group::Edge => unreachable!(),
+        };
+        let node = match self.world.tree().leaf_at(at) {
+            Some(node) => node,
+            None => return Err(Cause::PlaceBlock(at)),
+        };
+        self.fill_guards(var);
+        written(print_guards(
+            sink,
+            self.world.tree(),
+            self.names.cell(var),
+            Group::Cell(var),
+            &self.world,
+            node,
+        ))
     }
 
     /// Prints the total of a cell variable.

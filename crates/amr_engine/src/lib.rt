@@ -1,9 +1,9 @@
 //! The commands of a script, done one after the other on a mesh.
 #![tactic(auto)]
 
+mod advection;
 pub mod built;
 pub mod cause;
-mod advection;
 mod cells;
 pub mod engine;
 mod filling;

@@ -67,7 +67,7 @@ fn run<const N: usize, const G: usize, K: Sink, D: Disk>(
     disk: &mut D,
 ) -> Result<(), Stop>
     requires fit { All (IsLineOf (declared_of engine.old)) lines.now }
-    requires built { All (IsBuiltLine (declared_of engine.old)) lines.now }
+    requires built { All IsBuiltLine lines.now }
     ensures text { OnOk result (Wrote (texts (plain engine.old) (done (plain engine.old) lines.now)) (record { before = K.taken sink.old; after = K.taken sink.new; faults = K.faults sink.old; new_faults = K.faults sink.new })) }
     ensures whole { OnOk result (stop (plain engine.old) lines.now ≡ None) }
     ensures stops { IfErr result (λ stopped. RunStops (stopped_by stopped.cause) stopped.line (plain engine.old) lines.now (record { before = K.taken sink.old; after = K.taken sink.new; faults = K.faults sink.old; new_faults = K.faults sink.new })) }

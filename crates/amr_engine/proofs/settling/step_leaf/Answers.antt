@@ -1,4 +1,5 @@
-use Rattle.std.proofs.Common.{◌≡◌, ◌^◌, Some, IfErr, IfOk, ap, length, subst, sym, ◌∙◌}
+use Rattle.std.proofs.Common.{◌≡◌, ◌^◌, Some, IfErr, IfOk, ap, arith, length, subst, sym, ◌∙◌}
+use Rattle.amr_num.specs.declared.Axis.{Axis}
 use Rattle.amr_num.specs.declared.Axis.TheVariants.{X, Y, Z}
 use Rattle.mesh_model.specs.declared.fields.values.Var.TheVariants.{CellWork}
 use Rattle.mesh_model.specs.Fields.ArrayPlaces.{IsSize, cell_extents, face_extents, number_at}
@@ -7,6 +8,7 @@ use Rattle.mesh_model.specs.Fields.Ranks.{world_with}
 use Rattle.mesh_model.specs.Geometry.Limits.{IsShape}
 use Rattle.mesh_model.specs.Tree.Kinds.{Grid}
 use Rattle.mesh_model.proofs.FieldLemmas.Worlds.{fit_after, has_array, only_of, written_in}
+use Rattle.flux_conserve.specs.Work.{work_array}
 use Rattle.step_advect.specs.Applied.{AreInRange, IsApplied, first_out, flows_in, inner, left_at}
 use Rattle.step_advect.specs.Fluxed.{AreFacesWithin}
 use Rattle.amr_engine.specs.Settling.{work_cells}
@@ -14,25 +16,19 @@ use Rattle.amr_engine.proofs.Blocks.{size_by}
 use Rattle.amr_engine.proofs.Stepped.{faces_of, in_flows, range_of}
 use Rattle.amr_engine.proofs.settling.step_leaf.Goals as goal
 
-pub apply-requires-clause-in_range : goal.apply-requires-clause-in_range
-apply-requires-clause-in_range g c =
-    subst (λ xs. AreInRange g.row.N (inner g.row.G (number_at (cell_extents g.row.N g.row.G) xs))) (sym c.beside-out.ensures.reads.gives_a)
-    (range_of g.row.N g.row.G c.args.world.now c.args.v c.args.node c.requires.may c.requires.leaf)
-
-pub apply-requires-clause-small_x : goal.apply-requires-clause-small_x
-apply-requires-clause-small_x g c =
-    subst (λ xs. AreFacesWithin (2 ^ 58) g.row.N g.row.G X (number_at (face_extents g.row.N g.row.G X) xs)) (sym c.beside-out.ensures.reads.gives_b)
-    (faces_of g.row.N g.row.G c.args.world.now c.args.v c.args.node X c.requires.may c.requires.leaf)
-
-pub apply-requires-clause-small_y : goal.apply-requires-clause-small_y
-apply-requires-clause-small_y g c =
-    subst (λ xs. AreFacesWithin (2 ^ 58) g.row.N g.row.G Y (number_at (face_extents g.row.N g.row.G Y) xs)) (sym c.beside-out.ensures.reads.gives_c)
-    (faces_of g.row.N g.row.G c.args.world.now c.args.v c.args.node Y c.requires.may c.requires.leaf)
-
-pub apply-requires-clause-small_z : goal.apply-requires-clause-small_z
-apply-requires-clause-small_z g c =
-    subst (λ xs. AreFacesWithin (2 ^ 58) g.row.N g.row.G Z (number_at (face_extents g.row.N g.row.G Z) xs)) (sym c.beside-out.ensures.reads.gives_d)
-    (faces_of g.row.N g.row.G c.args.world.now c.args.v c.args.node Z c.requires.may c.requires.leaf)
+pub apply-requires-clause-arrays : goal.apply-requires-clause-arrays
+apply-requires-clause-arrays g c =
+    let n = g.row.N in
+    let e = g.row.G in
+    let lent = c.beside-out.ensures.reads in
+    let small : (a : Axis) → AreFacesWithin (2 ^ 58) n e a (number_at (face_extents n e a) (work_array c.args.world.now a c.args.node)) = λ a. faces_of n e c.args.world.now c.args.v c.args.node a c.requires.may c.requires.leaf in
+    record {
+      whole = ap length lent.gives_a ∙ lent.sizes 0 (omega arith);
+      in_range = subst (λ xs. AreInRange n (inner e (number_at (cell_extents n e) xs))) (sym lent.gives_a) (range_of n e c.args.world.now c.args.v c.args.node c.requires.may c.requires.leaf);
+      along_x = record { whole = ap length lent.gives_b ∙ lent.sizes 1 (omega arith); small = subst (λ xs. AreFacesWithin (2 ^ 58) n e X (number_at (face_extents n e X) xs)) (sym lent.gives_b) (small X) };
+      along_y = record { whole = ap length lent.gives_c ∙ lent.sizes 2 (omega arith); small = subst (λ xs. AreFacesWithin (2 ^ 58) n e Y (number_at (face_extents n e Y) xs)) (sym lent.gives_c) (small Y) };
+      along_z = record { whole = ap length lent.gives_d ∙ lent.sizes 3 (omega arith); small = subst (λ xs. AreFacesWithin (2 ^ 58) n e Z (number_at (face_extents n e Z) xs)) (sym lent.gives_d) (small Z) };
+    }
 
 pub returns-clause-only : goal.returns-clause-only
 returns-clause-only g c = only_of c.args.world.now CellWork c.args.node c.apply.new.out c.requires.may.fit.one

@@ -1,26 +1,22 @@
-use Rattle.std.proofs.Common.{All, subst, sym, ap, ◌∙◌}
-use Rattle.mesh_model.specs.Language.Commands.{plain_script}
+use Rattle.std.proofs.Common.{All, arith, subst, sym, ap, ◌∙◌}
+use Rattle.mesh_model.specs.Language.Commands.{IsLineOf, plain_script}
 use Rattle.amr_engine.specs.Built.{IsBuiltLine}
 use Rattle.amr_engine.specs.Plain.{declared_of, plain}
 use Rattle.amr_engine.specs.Stopping.{Written, stopped_by}
 use Rattle.amr_program.specs.Outcome.{Stopped}
-use Rattle.amr_program.proofs.Commands.{at_start, built_lines, built_mesh, built_names, came_done_from, came_stopped, roots_of, starved_first}
+use Rattle.amr_program.proofs.Commands.{at_start, built_lines, built_mesh, built_names, came_done_from, came_stopped, starved_first}
 use Rattle.amr_program.proofs.run.run_sized.Goals as goal
 
 pub returns-in-Err-clause-came : goal.returns-in-Err-clause-came
 returns-in-Err-clause-came g c = starved_first _ _ _ c.end.ensures
 
-pub new-requires-clause-roots : goal.new-requires-clause-roots
-new-requires-clause-roots g c = roots_of _ c.requires.limits
+pub new-requires : goal.new-requires
+new-requires g c = (omega arith, (c.requires.limits.shape, (c.requires.sizes, (built_names _ (built_mesh (plain_script c.args.script) c.requires.built), c.requires.limits.names.few))))
 
-pub new-requires-clause-shape : goal.new-requires-clause-shape
-new-requires-clause-shape g c = c.requires.limits.shape
-
-pub new-requires-clause-groups : goal.new-requires-clause-groups
-new-requires-clause-groups g c = built_names _ (built_mesh (plain_script c.args.script) c.requires.built)
-
-pub run-requires-clause-built : goal.run-requires-clause-built
-run-requires-clause-built g c = subst (All (IsBuiltLine (declared_of c.in-Ok.engine))) (sym c.deref.ensures.value) (subst (λ d. All (IsBuiltLine d) c.args.script.lines.items) (sym c.in-Ok.ensures.declared) (built_lines (plain_script c.args.script) c.requires.built))
+pub run-requires : goal.run-requires
+run-requires g c =
+    let fit = subst (λ d. All (IsLineOf d) c.args.script.lines.items) (sym c.in-Ok.ensures.declared) c.requires.lines in
+    (omega arith, (subst (All (IsLineOf (declared_of c.in-Ok.engine))) (sym c.deref.ensures.value) fit, subst (All IsBuiltLine) (sym c.deref.ensures.value) (built_lines (plain_script c.args.script) c.requires.built)))
 
 pub returns-clause-came : goal.returns-clause-came
 returns-clause-came g c =

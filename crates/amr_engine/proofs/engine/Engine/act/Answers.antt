@@ -11,7 +11,7 @@ use Rattle.amr_engine.specs.Plain.{declared_of, plain}
 use Rattle.amr_engine.specs.Regions.{filled}
 use Rattle.amr_engine.specs.declared.region.Region.TheVariants.{Everywhere, Within}
 use Rattle.amr_report.specs.Printing.{Prints}
-use Rattle.amr_engine.specs.Stopping.{Written}
+use Rattle.amr_engine.specs.Stopping.{Acts, Written}
 use Rattle.amr_engine.proofs.Acted.{acts_changing, acts_printing}
 use Rattle.amr_engine.proofs.engine.Engine.act.Goals as goal
 
@@ -66,6 +66,11 @@ returns-in-PrintVar-clause-acts g c =
     let m = plain c.args.self.now in
     let w : Written = record { before = g.K.Sink.taken c.args.sink.now; after = g.K.Sink.taken c.print_variable.new.sink; faults = g.K.Sink.faults c.args.sink.now; new_faults = g.K.Sink.faults c.print_variable.new.sink } in
     acts_printing c.print_variable.result c.written-in-PrintVar.result m m c.args.command (PrintVar c.in-PrintVar.group) w c.in-PrintVar.is refl refl refl c.print_variable.ensures c.written-in-PrintVar.ensures refl
+
+pub returns-in-PrintGuards-clause-acts : goal.returns-in-PrintGuards-clause-acts
+returns-in-PrintGuards-clause-acts g c =
+    let w : Written = record { before = g.K.Sink.taken c.args.sink.now; after = g.K.Sink.taken c.print_guards.new.sink; faults = g.K.Sink.faults c.args.sink.now; new_faults = g.K.Sink.faults c.print_guards.new.sink } in
+    subst (λ k. Acts c.print_guards.result (plain c.args.self.now) k (plain c.print_guards.new.self) w) (sym c.in-PrintGuards.is) c.print_guards.ensures.acts
 
 pub returns-in-Total-clause-acts : goal.returns-in-Total-clause-acts
 unfolding refusal
