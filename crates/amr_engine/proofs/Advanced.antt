@@ -1,5 +1,5 @@
 -- What an advect makes of an engine's mesh.
-use Rattle.std.proofs.Common.{◌≡◌, ℕ, ◌^◌, ◌<◌, ◌≤◌, true, false, List, Result, Ok, Err, length, set, get_or, ℤ, pos, None, refl, sym, ap, subst, ◌∙◌, arith, inl, inr}
+use Rattle.std.proofs.Common.{◌≡◌, ℕ, ◌^◌, ◌<◌, false, List, Ok, Err, length, set, get_or, ℤ, pos, None, refl, sym, ap, subst, ◌∙◌, arith, inl, inr}
 use Rattle.std.proofs.lemmas.Bool.{cases_lt, lt-ltb}
 use Rattle.std.proofs.lemmas.List.{length-set}
 use Rattle.std.specs.Prelude.{unsigned_abs}
@@ -7,7 +7,7 @@ use Rattle.amr_num.specs.Numbers.{Within}
 use Rattle.block_tree.specs.Marked.{derefine_of, refine_of}
 use Rattle.block_tree.specs.declared.marks.Marks.{Marks}
 use Rattle.mesh_model.specs.declared.language.script.Command.TheVariants.{Advect}
-use Rattle.mesh_model.specs.Fields.Advect.{advect, keeps_courant, three}
+use Rattle.mesh_model.specs.Fields.Advect.{advect, three}
 use Rattle.mesh_model.specs.Fields.Plain.{Mesh}
 use Rattle.mesh_model.specs.Fields.RangeWalk.{is_above}
 use Rattle.mesh_model.specs.Fields.Ranks.{Told, WorldState}
@@ -16,11 +16,10 @@ use Rattle.mesh_model.specs.Fields.VariableNames.{VariableNames}
 use Rattle.mesh_model.specs.Language.Commands.{AreThree}
 use Rattle.mesh_model.specs.Run.Stops.{refusal}
 use Rattle.mesh_model.proofs.RunLemmas.RunValid.{keeps_validity}
-use Rattle.rank_world.specs.Holding.{IsOfMesh, IsOfValidMesh}
+use Rattle.rank_world.specs.Holding.{IsOfValidMesh}
 use Rattle.amr_engine.specs.EngineMesh.{IsLaidOut, mesh_of}
-use Rattle.amr_engine.specs.Stepping.{Steps, out_after}
-use Rattle.amr_engine.specs.Stopping.{Changes, MayStop, cause_told, stopped_by}
-use Rattle.amr_engine.specs.declared.cause.Cause.{Cause}
+use Rattle.amr_engine.specs.Stepping.{Steps}
+use Rattle.amr_engine.specs.Stopping.{Changes, cause_told}
 use Rattle.amr_engine.specs.declared.hindrance.Hindrance.{Hindrance}
 use Rattle.amr_engine.specs.declared.hindrance.Hindrance.TheVariants.{Content, FlowedOut, TooFast}
 use Rattle.amr_engine.proofs.Advected.{content_refused, not_refused, out_refused, outs_set, too_fast}

@@ -1,20 +1,19 @@
 -- An advect of a variable, from what a step found.
-use Rattle.std.proofs.Common.{◌≡◌, ◌≢◌, ◌⊎◌, ℕ, ◌^◌, ◌<◌, ◌==◌, true, false, List, Option, Some, None, Result, Ok, Err, find, length, set, get_or, ℤ, ◌+ℤ◌, pos, refl, sym, ap, ap₂, subst, ◌∙◌, arith, inl, inr, eqb-true, eq-eqb}
+use Rattle.std.proofs.Common.{◌≡◌, ℕ, ◌^◌, ◌<◌, ◌==◌, true, false, List, Some, None, find, length, set, get_or, ℤ, ◌+ℤ◌, pos, refl, sym, ap, ap₂, subst, ◌∙◌, arith, inl, inr, eqb-true, eq-eqb}
 use Rattle.std.proofs.lemmas.Bool.{cases_Bool}
 use Rattle.std.proofs.lemmas.List.{get_or-set_other, get_or-set_same}
 use Rattle.std.specs.Option.{option_map, option_or}
 use Rattle.std.specs.Prelude.{if◌then◌else◌}
 use Rattle.amr_num.specs.declared.CellAt.{CellAt}
-use Rattle.mesh_model.specs.declared.fields.spot.RangeStop.{RangeStop}
 use Rattle.mesh_model.specs.declared.fields.spot.Spot.TheVariants as spots
 use Rattle.mesh_model.specs.declared.fields.values.Group.TheVariants.{Cell}
 use Rattle.mesh_model.specs.declared.language.script.Command.TheVariants.{Advect}
 use Rattle.mesh_model.specs.declared.run.stops.Refusal.TheVariants as refusals
 use Rattle.mesh_model.specs.Fields.Advect.{advect, keeps_courant, outflow, three}
 use Rattle.mesh_model.specs.Fields.Plain.{Mesh}
-use Rattle.mesh_model.specs.Fields.RangeWalk.{cell_above, cells_walked, first_cell_above, first_excess, is_above, out_above, out_excess}
+use Rattle.mesh_model.specs.Fields.RangeWalk.{cell_above, cells_walked, first_cell_above, is_above, out_above, out_excess}
 use Rattle.mesh_model.specs.Fields.Valid.{ValidMesh}
-use Rattle.mesh_model.specs.Run.Stops.{range_of, refusal}
+use Rattle.mesh_model.specs.Run.Stops.{refusal}
 use Rattle.mesh_model.proofs.FieldLemmas.AdvectStops.{advect_excess}
 use Rattle.amr_engine.specs.Stepping.{IsCalm, content_after, first_above, out_after}
 use Rattle.amr_engine.specs.declared.hindrance.Above.{Above}

@@ -1,5 +1,5 @@
 -- Blocks of a tree, and the sizes of its blocks.
-use Rattle.std.proofs.Common.{◌≡◌, ◌⊎◌, ℕ, sym, subst}
+use Rattle.std.proofs.Common.{◌≡◌, ◌⊎◌, ℕ, subst}
 use Rattle.amr_num.specs.declared.BlockAt.{BlockAt}
 use Rattle.mesh_model.specs.declared.geometry.Shape.{Shape}
 use Rattle.mesh_model.specs.Geometry.Blocks.{InDomain}

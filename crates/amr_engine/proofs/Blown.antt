@@ -1,7 +1,6 @@
 -- Work faces that hold the mesh's fluxes.
-use Rattle.std.proofs.Common.{◌≡◌, ℕ, ◌+◌, ◌<◌, true, ℤ, sym, subst, ◌∙◌}
+use Rattle.std.proofs.Common.{ℤ, sym, ◌∙◌}
 use Rattle.amr_num.specs.declared.CellAt.{CellAt}
-use Rattle.amr_num.specs.declared.FaceAt.{FaceAt}
 use Rattle.block_tree.specs.Numbered.{block_at}
 use Rattle.flux_conserve.specs.Jumps.{jumped}
 use Rattle.flux_conserve.specs.Work.{WorkHolds}

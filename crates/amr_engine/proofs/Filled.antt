@@ -5,10 +5,9 @@ use Rattle.std.proofs.lemmas.Bool.{cases_lt}
 use Rattle.amr_num.specs.declared.BlockAt.{BlockAt}
 use Rattle.amr_num.specs.declared.CellAt.{CellAt}
 use Rattle.mesh_model.specs.declared.fields.values.Var.TheVariants.{Cell}
-use Rattle.mesh_model.specs.Fields.ArrayPlaces.{HoldsViews, IsWritten, cell_extents, interior, number_at}
+use Rattle.mesh_model.specs.Fields.ArrayPlaces.{HoldsViews}
 use Rattle.mesh_model.specs.Fields.Octants.{cells_of}
 use Rattle.mesh_model.specs.Fields.Ranks.{IsSized, OnlyOf, Told, WorldState}
-use Rattle.mesh_model.specs.Fields.Views.{cell_view}
 use Rattle.mesh_model.specs.Geometry.Places.{in_block}
 use Rattle.mesh_model.specs.Tree.Kinds.{Grid, is_leaf, is_leaf_block}
 use Rattle.mesh_model.specs.Tree.ValidGrid.{Valid}
@@ -18,7 +17,7 @@ use Rattle.mesh_model.proofs.FieldLemmas.ValidGrid.{leaf_whole}
 use Rattle.block_tree.specs.Numbered.{block_at}
 use Rattle.rank_world.specs.Holding.{IsLeafNode, LeavesHold, NodeHolds, cell_array}
 use Rattle.rank_world.specs.Holding.{OnlyCells}
-use Rattle.amr_engine.specs.Filling.{IsFilled, filled_cell}
+use Rattle.amr_engine.specs.Filling.{IsFilled}
 use Rattle.amr_engine.specs.Regions.{covers, filled_content}
 use Rattle.amr_engine.specs.declared.region.Fill.{Fill}
 

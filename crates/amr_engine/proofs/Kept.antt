@@ -1,5 +1,5 @@
 -- Worlds that change only where no leaf's cells stand.
-use Rattle.std.proofs.Common.{◌≡◌, ℕ, ◌+◌, ◌<◌, false, true, ◌==◌, List, ℤ, refl, sym, ap, subst, ◌∙◌, arith, inl, inr, eqb-true, eq-eqb}
+use Rattle.std.proofs.Common.{◌≡◌, ℕ, ◌<◌, false, ◌==◌, ℤ, sym, ap, subst, ◌∙◌, inl, inr, eqb-true, eq-eqb}
 use Rattle.std.proofs.lemmas.Bool.{cases_Bool}
 use Rattle.amr_num.specs.declared.CellAt.{CellAt}
 use Rattle.block_tree.specs.Numbered.{block_at}
@@ -9,9 +9,8 @@ use Rattle.guard_fill.specs.Restricting.{OnlyParents}
 use Rattle.mesh_model.specs.declared.fields.values.Var.TheVariants.{Cell}
 use Rattle.mesh_model.specs.Fields.ArrayPlaces.{HoldsViews}
 use Rattle.mesh_model.specs.Fields.Octants.{cells_of}
-use Rattle.mesh_model.specs.Fields.Plain.{Mesh}
 use Rattle.mesh_model.specs.Fields.Ranks.{Told, WorldState}
-use Rattle.rank_world.specs.Holding.{IsLeafNode, IsOfMesh, LeavesHold, NodeHolds, OnlyCells, cell_array}
+use Rattle.rank_world.specs.Holding.{IsLeafNode, NodeHolds, OnlyCells, cell_array}
 use Rattle.amr_engine.specs.Settling.{OnlyWorkCells}
 use Rattle.amr_engine.specs.Stepping.{KeepsMeshes}
 use Rattle.amr_engine.proofs.Filled.{holds_same}

@@ -1,6 +1,5 @@
 -- Leaves that are marked by what they contain, one after the other.
-use Rattle.std.proofs.Common.{◌≡◌, ◌≢◌, ℕ, ◌+◌, ◌<◌, ◌≤◌, Bool, true, false, ◌||◌, ℤ, refl, sym, ap, ap₂, subst, ◌∙◌, arith, inl, inr}
-use Rattle.std.specs.Prelude.{◌&&◌}
+use Rattle.std.proofs.Common.{◌≡◌, ◌≢◌, ℕ, ◌+◌, ◌<◌, ◌≤◌, Bool, true, false, ℤ, refl, sym, ap, subst, ◌∙◌, arith, inl, inr}
 use Rattle.std.proofs.lemmas.Bool.{cases_Bool, cases_lt}
 use Rattle.amr_num.specs.declared.BlockAt.{BlockAt}
 use Rattle.amr_num.specs.declared.CellAt.{CellAt}
@@ -17,7 +16,7 @@ use Rattle.mesh_model.proofs.TreeLemmas.Tests.{refuted}
 use Rattle.rank_world.specs.Contents.{node_of}
 use Rattle.rank_world.specs.Holding.{LeavesHold}
 use Rattle.rank_world.proofs.Contents.{leaf_of_number, number_of_node}
-use Rattle.amr_engine.specs.MarkedWhere.{IsMarkedWhere, derefine_with, is_found, refine_with}
+use Rattle.amr_engine.specs.MarkedWhere.{derefine_with, is_found, refine_with}
 use Rattle.amr_engine.specs.declared.marking.Where.{Where}
 use Rattle.amr_engine.specs.declared.marking.Where.TheVariants.{DerefineBelow, RefineAbove}
 

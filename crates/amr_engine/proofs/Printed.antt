@@ -1,10 +1,8 @@
 -- What is printed of a world is what its mesh has.
-use Rattle.std.proofs.Common.{◌≡◌, ℕ, ◌+◌, ◌*◌, ◌<◌, true, ℤ, ◌+ℤ◌, ◌-ℤ◌, pos, refl, sym, ap, ap₂, subst, ◌∙◌, arith}
+use Rattle.std.proofs.Common.{◌≡◌, ℕ, ◌+◌, ◌<◌, true, ℤ, ◌-ℤ◌, pos, sym, ap, ap₂, subst, ◌∙◌, arith}
 use Rattle.std.proofs.lemmas.Int.{ints}
-use Rattle.amr_num.specs.declared.Axis.{Axis}
 use Rattle.block_tree.specs.Numbered.{IsNode, block_at}
 use Rattle.mesh_model.specs.declared.fields.values.Group.TheVariants.{Cell}
-use Rattle.mesh_model.specs.declared.fields.values.Var.TheVariants as vars
 use Rattle.mesh_model.specs.Fields.ArrayPlaces.{HoldsGuards, HoldsViews, cell_extents, extents_of, number_at, number_of, place_of}
 use Rattle.mesh_model.specs.Fields.Arrays.{array_in}
 use Rattle.mesh_model.specs.Fields.Plain.{Mesh}
@@ -12,13 +10,12 @@ use Rattle.mesh_model.specs.Fields.Ranks.{IsFit, WorldState, rank_at}
 use Rattle.mesh_model.specs.Fields.Valid.{ValidMesh}
 use Rattle.mesh_model.specs.Geometry.Places.{in_block}
 use Rattle.mesh_model.specs.Tree.Kinds.{Grid, is_leaf, is_leaf_block}
-use Rattle.mesh_model.specs.Tree.ValidGrid.{Valid}
 use Rattle.mesh_model.proofs.FieldLemmas.BlockOctants.{block_of_cell}
 use Rattle.mesh_model.proofs.FieldLemmas.CellSums.{view_leaf}
 use Rattle.mesh_model.proofs.FieldLemmas.ValidGrid.{leaf_whole}
 use Rattle.amr_report.specs.Values.{HasGuardValues, HasViews}
 use Rattle.guard_fill.specs.Filling.{LeavesGuarded}
-use Rattle.rank_world.specs.Holding.{IsOfMesh, cell_array, numbers_of}
+use Rattle.rank_world.specs.Holding.{IsOfMesh, cell_array}
 
 -- a block index that is no guard's stands behind the guards
 place_is : (g i : ℕ) → place_of g (pos i) ≡ g + i

@@ -1,5 +1,5 @@
 -- The leaves of a valid mesh hold numbers within their range.
-use Rattle.std.proofs.Common.{◌≡◌, ℕ, ◌^◌, ◌<◌, true, ℤ, sym, ap, subst, ◌∙◌, arith}
+use Rattle.std.proofs.Common.{◌≡◌, ◌^◌, true, sym, ap, subst, ◌∙◌}
 use Rattle.amr_num.specs.Numbers.{Within}
 use Rattle.mesh_model.specs.Fields.Plain.{Mesh}
 use Rattle.mesh_model.specs.Fields.Ranks.{WorldState}

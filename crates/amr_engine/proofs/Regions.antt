@@ -1,12 +1,10 @@
 -- Regions of a domain.
-use Rattle.std.proofs.Common.{◌≡◌, ℕ, ◌*◌, ◌^◌, ◌<◌, ◌≤◌, List, arith, inl, inr}
+use Rattle.std.proofs.Common.{ℕ, ◌*◌, ◌^◌, ◌≤◌, arith, inl, inr}
 use Rattle.std.proofs.lemmas.Nat.{mul-le}
 use Rattle.std.proofs.Math.Pow.{pow_mono}
-use Rattle.std.specs.Prelude.{slice_index}
-use Rattle.amr_num.specs.declared.Axis.{Axis}
 use Rattle.amr_num.specs.declared.Axis.TheVariants.{X, Y, Z}
 use Rattle.mesh_model.specs.declared.geometry.Shape.{Shape}
-use Rattle.mesh_model.specs.Geometry.Coordinates.{axis_index, extent, roots}
+use Rattle.mesh_model.specs.Geometry.Coordinates.{roots}
 use Rattle.mesh_model.specs.Geometry.Limits.{IsShape}
 use Rattle.mesh_model.specs.Language.Commands.{IsBox}
 use Rattle.amr_engine.specs.Regions.{IsCellBox, IsRegion, IsRegionOf}

@@ -1,12 +1,11 @@
 -- The mesh that an engine stands for is the mesh of which its world is.
-use Rattle.std.proofs.Common.{◌≡◌, ℕ, ◌<◌, ◌≤◌, Bool, true, false, List, length, get_or, ℤ, pos, None, refl, sym, ap, subst, ◌∙◌, arith, inl, inr}
-use Rattle.std.specs.Prelude.{if◌then◌else◌, nat_lt, ◌↔◌}
+use Rattle.std.proofs.Common.{◌≡◌, ℕ, ◌<◌, ◌≤◌, true, false, List, length, get_or, ℤ, pos, None, refl, sym, ap, subst, ◌∙◌, arith, inl, inr}
+use Rattle.std.specs.Prelude.{if◌then◌else◌, nat_lt}
 use Rattle.std.proofs.lemmas.Bool.{cases_lt, le-ltb, lt-ltb}
 use Rattle.amr_num.specs.declared.BlockAt.{BlockAt}
 use Rattle.amr_num.specs.declared.CellAt.{CellAt}
 use Rattle.block_tree.specs.Marked.{derefine_of, refine_of}
 use Rattle.block_tree.specs.declared.marks.Marks.{Marks}
-use Rattle.mesh_model.specs.Fields.ArrayPlaces.{HoldsViews}
 use Rattle.mesh_model.specs.Fields.Plain.{Mesh, on_cells}
 use Rattle.mesh_model.specs.Fields.Ranks.{WorldState}
 use Rattle.mesh_model.specs.Fields.Valid.{ValidMesh}
@@ -21,7 +20,7 @@ use Rattle.mesh_model.proofs.FieldLemmas.LeafSums.{on_leaf}
 use Rattle.mesh_model.proofs.FieldLemmas.ValidGrid.{leaf_whole}
 use Rattle.block_tree.specs.Numbered.{block_at}
 use Rattle.rank_world.specs.Contents.{contents_of}
-use Rattle.rank_world.specs.Holding.{IsOfMesh, LeavesHold, numbers_of}
+use Rattle.rank_world.specs.Holding.{IsOfMesh, LeavesHold}
 use Rattle.rank_world.proofs.Contents.{contents_are, leaves_hold}
 use Rattle.amr_engine.specs.EngineMesh.{IsLaidOut, mesh_of}
 

@@ -1,8 +1,7 @@
 -- A new world is that of the start mesh.
-use Rattle.std.proofs.Common.{◌≡◌, ℕ, ◌+◌, ◌<◌, ◌≤◌, false, List, length, get_or, replicate, ℤ, pos, None, refl, sym, ap, subst, ◌∙◌, arith, inl, inr}
+use Rattle.std.proofs.Common.{◌≡◌, ℕ, ◌+◌, ◌<◌, ◌≤◌, List, length, get_or, replicate, ℤ, pos, None, refl, sym, ap, subst, ◌∙◌, arith, inl, inr}
 use Rattle.std.proofs.lemmas.Bool.{cases_lt}
 use Rattle.std.proofs.lemmas.List.{get_or-replicate, get_or_past, length-replicate}
-use Rattle.amr_num.specs.declared.CellAt.{CellAt}
 use Rattle.block_tree.specs.Marked.{IsUnmarked, room}
 use Rattle.block_tree.specs.Numbered.{block_at}
 use Rattle.block_tree.specs.declared.marks.Marks.{Marks}

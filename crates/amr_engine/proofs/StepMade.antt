@@ -1,21 +1,18 @@
 -- What a step found and made, in the mesh's words.
-use Rattle.std.proofs.Common.{◌≡◌, ℕ, ◌+◌, ◌^◌, ◌<◌, ◌≤◌, ◌==◌, true, false, List, Option, Some, None, find, ℤ, ◌+ℤ◌, refl, sym, ap, ap₂, subst, ◌∙◌, arith, inl, inr, eqb-true}
+use Rattle.std.proofs.Common.{◌≡◌, ℕ, ◌+◌, ◌^◌, ◌<◌, ◌≤◌, ◌==◌, true, false, List, Option, find, ℤ, ◌+ℤ◌, sym, ap, ap₂, subst, ◌∙◌, arith, inl, inr, eqb-true}
 use Rattle.std.proofs.lemmas.Bool.{cases_Bool, le-ltb, lt-ltb}
 use Rattle.std.specs.Prelude.{if◌then◌else◌, unsigned_abs}
 use Rattle.amr_num.specs.Numbers.{Within, number_range}
 use Rattle.amr_num.specs.declared.CellAt.{CellAt}
 use Rattle.amr_num.proofs.Sizes.{within_add}
 use Rattle.flux_conserve.specs.Work.{WorkHolds}
-use Rattle.mesh_model.specs.Fields.Advect.{Speeds, advect, advected, flux, outflow, three}
+use Rattle.mesh_model.specs.Fields.Advect.{advect, advected, flux, outflow, three}
 use Rattle.mesh_model.specs.Fields.Plain.{Mesh}
 use Rattle.mesh_model.specs.Fields.RangeWalk.{cells_walked, is_above}
 use Rattle.mesh_model.specs.Fields.Ranks.{Told, WorldState}
-use Rattle.mesh_model.specs.Fields.Valid.{ValidMesh}
-use Rattle.mesh_model.specs.Tree.Kinds.{Grid}
 use Rattle.rank_world.specs.Holding.{IsLeafNode, IsOfMesh, LeavesHold, OnlyCells}
 use Rattle.amr_engine.specs.Settling.{AreFluxed, OnlyWorkCells, WorkCellsHold}
 use Rattle.amr_engine.specs.Stepping.{KeepsMeshes, content_after, first_above}
-use Rattle.amr_engine.specs.declared.hindrance.Above.{Above}
 use Rattle.amr_engine.proofs.Kept.{meshes_kept, others_kept, work_kept}
 use Rattle.amr_engine.proofs.Machine.{kept_128, wide}
 

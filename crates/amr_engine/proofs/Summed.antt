@@ -1,11 +1,10 @@
 -- Sums over the nodes of a tree.
-use Rattle.std.proofs.Common.{◌≡◌, ℕ, zero, suc, ◌+◌, ◌<◌, Bool, true, false, List, [], ◌∷◌, length, get_or, filter, ℤ, pos, ◌+ℤ◌, refl, sym, ap, ap₂, ◌∙◌, arith}
+use Rattle.std.proofs.Common.{◌≡◌, ℕ, zero, suc, ◌+◌, Bool, true, false, List, [], ◌∷◌, length, get_or, filter, ℤ, pos, ◌+ℤ◌, refl, ap, ◌∙◌, arith}
 use Rattle.std.specs.Prelude.{if◌then◌else◌}
 use Rattle.std.proofs.lemmas.Int.{ints}
 use Rattle.amr_num.specs.Numbers.{sum_below}
 use Rattle.amr_num.specs.declared.BlockAt.{BlockAt}
 use Rattle.amr_num.specs.declared.CellAt.{CellAt}
-use Rattle.amr_num.proofs.Parts.{sum_below_same}
 use Rattle.mesh_model.specs.Fields.ArrayPlaces.{HoldsViews}
 use Rattle.mesh_model.specs.Fields.Totals.{block_sum, box_sum, sum_over, total}
 use Rattle.mesh_model.specs.Geometry.Places.{in_block}

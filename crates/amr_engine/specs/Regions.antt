@@ -1,5 +1,5 @@
 -- Which leaf cells a fill takes, and what it makes of a mesh.
-use Rattle.std.specs.Prelude.{◌≡◌, ℕ, ◌≤◌, ◌^◌, Bool, true, if◌then◌else◌, List, ℤ, slice_index}
+use Rattle.std.specs.Prelude.{ℕ, ◌≤◌, ◌^◌, Bool, true, if◌then◌else◌, List, ℤ, slice_index}
 use Rattle.amr_num.specs.declared.CellAt.{CellAt}
 use Rattle.mesh_model.specs.Fields.Fill.{is_in_box, with_cells}
 use Rattle.mesh_model.specs.Fields.Plain.{Mesh, on_cells}

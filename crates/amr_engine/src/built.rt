@@ -42,9 +42,7 @@ fn is_built_mesh(declared: &Declared) -> bool
 fn are_built(lines: &[Line]) -> bool
     ensures { result ≡ list_all (λ line. plain.is_built_command line.command) lines.now }
 {
-    lines
-        .iter()
-        .all(|line| is_built_command(line.command))
+    lines.iter().all(|line| is_built_command(line.command))
 }
 
 /// Whether all that the script asks for is built, for so many ranks and workers. What is not built is
@@ -53,8 +51,5 @@ fn are_built(lines: &[Line]) -> bool
 pub fn built(script: &Script, ranks: u32, workers: u32) -> bool
     ensures { result ≡ plain.is_built (plain_script script.now) ranks workers }
 {
-    is_built_mesh(&script.declared)
-        && ranks <= 1
-        && workers <= 1
-        && are_built(&script.lines)
+    is_built_mesh(&script.declared) && ranks <= 1 && workers <= 1 && are_built(&script.lines)
 }

@@ -327,7 +327,12 @@ impl<const N: usize, const G: usize> Engine<N, G> {
     }
 
     /// Prints the numbers of a variable in and round a leaf.
-    fn print_guards<K: Sink>(&mut self, group: Group, at: BlockAt, sink: &mut K) -> Result<(), Cause>
+    fn print_guards<K: Sink>(
+        &mut self,
+        group: Group,
+        at: BlockAt,
+        sink: &mut K,
+    ) -> Result<(), Cause>
         requires { IsGroup (declared_of self.old).names group }
         ensures acts { Acts result (plain self.old) (Command.PrintGuards group at) (plain self.new) (record { before = K.taken sink.old; after = K.taken sink.new; faults = K.faults sink.old; new_faults = K.faults sink.new }) }
         ensures declared { declared_of self.new ≡ declared_of self.old }

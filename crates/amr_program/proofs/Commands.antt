@@ -2,18 +2,12 @@
 use Rattle.std.proofs.lemmas.Bool.{and_parts}
 use Rattle.std.specs.List.{list_all}
 use Rattle.std.proofs.lemmas.List.Elements.{All-cons, All-nil}
-use Rattle.std.proofs.Common.{◌≡◌, ℕ, ◌≤◌, is_none, Bool, true, false, ◌&&◌, if◌then◌else◌, All, zero, suc, ◌+◌, ◌<◌, ◌++◌, ◌⊎◌, List, [], ◌∷◌, Option, Some, None, Result, Ok, Err, IfSome, length, get_or, take, drop, inl, inr, refl, sym, ap, subst, ◌∙◌, arith, append_assoc, append-nil, length-append}
+use Rattle.std.proofs.Common.{◌≡◌, ℕ, ◌≤◌, is_none, Bool, true, false, if◌then◌else◌, All, zero, suc, ◌+◌, ◌<◌, ◌++◌, List, [], ◌∷◌, Option, Some, None, Result, Ok, Err, IfSome, length, get_or, take, drop, inl, inr, refl, sym, ap, subst, ◌∙◌, arith, append_assoc, append-nil, length-append}
 use Rattle.std.proofs.Math.Seq.{take-suc}
-use Rattle.amr_num.specs.declared.Axis.{Axis}
-use Rattle.amr_num.specs.declared.Axis.TheVariants.{X, Y, Z}
-use Rattle.amr_num.specs.declared.SideKind.{SideKind}
-use Rattle.amr_num.specs.declared.SideKind.TheVariants.{Periodic}
 use Rattle.script_lang.proofs.Scripts.{script_fits, script_in_limits}
 use Rattle.mesh_model.specs.declared.language.script.Command.{Command}
 use Rattle.mesh_model.specs.declared.run.stops.Refusal as stops
-use Rattle.mesh_model.specs.Geometry.Coordinates.{is_periodic_kind, roots, side_index, side_kind}
 use Rattle.mesh_model.specs.Language.Grammar.{script_of, Fault}
-use Rattle.mesh_model.specs.Geometry.Limits.{IsShape}
 use Rattle.mesh_model.specs.Run.StopTexts.{stop_line}
 use Rattle.mesh_model.specs.Run.Stops.{refusal}
 use Rattle.mesh_model.specs.Fields.Valid.{ValidMesh}

@@ -1,14 +1,10 @@
-use Rattle.std.proofs.Common.{◌≡◌, ◌<◌, ℕ, ℤ, true, arith, ap, subst, sym, ◌∙◌}
-use Rattle.amr_num.specs.declared.CellAt.{CellAt}
+use Rattle.std.proofs.Common.{◌≡◌, ◌<◌, true, arith, subst, sym, ◌∙◌}
 use Rattle.flux_conserve.specs.Jumps.{jumped}
 use Rattle.flux_conserve.specs.Work.{WorkHolds}
-use Rattle.guard_fill.specs.Filling.{LeavesGuarded}
 use Rattle.mesh_model.specs.Fields.Advect as stepping
 use Rattle.mesh_model.specs.Fields.Advect.{flux, leaf_flux, three}
-use Rattle.mesh_model.specs.Fields.Ranks.{Told, WorldState}
-use Rattle.mesh_model.specs.Tree.Kinds.{Grid}
+use Rattle.mesh_model.specs.Fields.Ranks.{Told}
 use Rattle.mesh_model.specs.Tree.ValidGrid.{Valid}
-use Rattle.rank_world.specs.Holding.{IsOfMesh, LeavesHold}
 use Rattle.amr_engine.proofs.Blown.{fluxes_held}
 use Rattle.amr_engine.proofs.Kept.{faces_kept, guards_kept, meshes_kept, parents_kept}
 use Rattle.amr_engine.proofs.advection.blow.Goals as goal
@@ -21,11 +17,19 @@ flow-requires g c =
     let content = mesh.mesh.cells c.args.v in
     let guards = c.fill.ensures.guards content (c.restrict_all.ensures.views content (mesh.world.contents c.args.v c.requires.variable)) in (
       omega arith,
-      (c.fill.ensures.fit,
-      (subst (λ (t : Told). c.args.v < t.counts.cells) (sym told) c.requires.variable,
-      (record { content = content; guarded = guards; small = mesh.valid.range.cells c.args.v },
-      (c.requires.speeds,
-      subst (λ (t : Told). stepping.keeps_courant t.grid.shape (three c.args.speeds) ≡ true) (sym told) c.requires.courant)))),
+      (
+        c.fill.ensures.fit,
+        (
+          subst (λ (t : Told). c.args.v < t.counts.cells) (sym told) c.requires.variable,
+          (
+            record { content = content; guarded = guards; small = mesh.valid.range.cells c.args.v },
+            (
+              c.requires.speeds,
+              subst (λ (t : Told). stepping.keeps_courant t.grid.shape (three c.args.speeds) ≡ true) (sym told) c.requires.courant,
+            ),
+          ),
+        ),
+      ),
     )
 
 pub returns-clause-meshes : goal.returns-clause-meshes
@@ -52,6 +56,6 @@ returns-clause-flows g c content holds =
     let guarded = c.fill.ensures.guards content (c.restrict_all.ensures.views content holds) in
     let own = c.correct.ensures.field (leaf_flux c.fill.new.world.told.grid content n) (c.flow.ensures.holds content guarded) in
     let ended : WorkHolds f (jumped f.told.grid (leaf_flux f.told.grid content n)) =
-      subst (λ (t : Told). WorkHolds f (jumped t.grid (leaf_flux f.told.grid content n))) (to_flow ∙ sym to_end)
-      (subst (λ (t : Told). WorkHolds f (jumped c.flow.new.world.told.grid (leaf_flux t.grid content n))) (to_fill ∙ sym to_end) own) in
+    subst (λ (t : Told). WorkHolds f (jumped t.grid (leaf_flux f.told.grid content n))) (to_flow ∙ sym to_end)
+    (subst (λ (t : Told). WorkHolds f (jumped c.flow.new.world.told.grid (leaf_flux t.grid content n))) (to_fill ∙ sym to_end) own) in
     subst (λ (t : Told). WorkHolds f (flux t.grid content n)) to_end (fluxes_held f content n (subst (λ (t : Told). Valid t.grid) (sym to_end) grid) ended)

@@ -16,10 +16,16 @@ settle-requires g c =
     let blown = c.blow.new.world in
     let mesh = c.requires.mesh in (
       omega arith,
-      (c.blow.ensures.fit,
-      (subst (λ (t : Told). c.args.v < t.counts.cells) (sym c.blow.ensures.told) c.requires.variable,
-      (leaves_in_range blown mesh.mesh (c.blow.ensures.meshes mesh.mesh mesh.world) mesh.valid,
-      c.blow.ensures.small))),
+      (
+        c.blow.ensures.fit,
+        (
+          subst (λ (t : Told). c.args.v < t.counts.cells) (sym c.blow.ensures.told) c.requires.variable,
+          (
+            leaves_in_range blown mesh.mesh (c.blow.ensures.meshes mesh.mesh mesh.world) mesh.valid,
+            c.blow.ensures.small,
+          ),
+        ),
+      ),
     )
 
 pub returns-in-Err-clause-steps : goal.returns-in-Err-clause-steps
@@ -46,8 +52,8 @@ returns-then-unsigned_abs-gt-MOST_OUT-clause-steps g c m valid of out_of =
     let calm : IsCalm m v speeds = record { courant = slow; none = found_is old blown v speeds m of c.requires.variable c.blow.ensures.told c.blow.ensures.meshes c.blow.ensures.flows None (c.in-Ok.ensures.none (m.cells v) (three speeds) fluxed) } in
     let sum = kept_128 (kept_128 c.args.out +ℤ kept_128 c.in-Ok.flown) in
     let out : sum ≡ out_after m v speeds =
-      flown_told c.args.out c.in-Ok.flown c.requires.out c.in-Ok.ensures.size
-      ∙ ap₂ (λ x y. x +ℤ y) out_of (c.in-Ok.ensures.flown (m.cells v) (three speeds) fluxed ∙ flown_is old blown v speeds m of c.requires.variable c.blow.ensures.told c.blow.ensures.meshes c.blow.ensures.flows) ∙ sym (out_is m v speeds valid there) in
+    flown_told c.args.out c.in-Ok.flown c.requires.out c.in-Ok.ensures.size
+    ∙ ap₂ (λ x y. x +ℤ y) out_of (c.in-Ok.ensures.flown (m.cells v) (three speeds) fluxed ∙ flown_is old blown v speeds m of c.requires.variable c.blow.ensures.told c.blow.ensures.meshes c.blow.ensures.flows) ∙ sym (out_is m v speeds valid there) in
     let far : 2 ^ 100 < unsigned_abs sum = subst (λ k. 2 ^ 100 < k) c.unsigned_abs.ensures.value c.if-unsigned_abs-gt-MOST_OUT.true in
     (calm, out, is_far (2 ^ 100) sum far, still_of old blown v speeds m of c.requires.variable c.blow.ensures.told c.blow.ensures.meshes c.blow.ensures.flows c.settle.new.world c.settle.ensures.only)
 
@@ -64,8 +70,8 @@ returns-clause-steps g c m valid of out_of =
     let calm : IsCalm m v speeds = record { courant = slow; none = found_is old blown v speeds m of c.requires.variable c.blow.ensures.told c.blow.ensures.meshes c.blow.ensures.flows None (c.in-Ok.ensures.none (m.cells v) (three speeds) fluxed) } in
     let sum = kept_128 (kept_128 c.args.out +ℤ kept_128 c.in-Ok.flown) in
     let out : sum ≡ out_after m v speeds =
-      flown_told c.args.out c.in-Ok.flown c.requires.out c.in-Ok.ensures.size
-      ∙ ap₂ (λ x y. x +ℤ y) out_of (c.in-Ok.ensures.flown (m.cells v) (three speeds) fluxed ∙ flown_is old blown v speeds m of c.requires.variable c.blow.ensures.told c.blow.ensures.meshes c.blow.ensures.flows) ∙ sym (out_is m v speeds valid there) in
+    flown_told c.args.out c.in-Ok.flown c.requires.out c.in-Ok.ensures.size
+    ∙ ap₂ (λ x y. x +ℤ y) out_of (c.in-Ok.ensures.flown (m.cells v) (three speeds) fluxed ∙ flown_is old blown v speeds m of c.requires.variable c.blow.ensures.told c.blow.ensures.meshes c.blow.ensures.flows) ∙ sym (out_is m v speeds valid there) in
     let near : unsigned_abs sum ≤ 2 ^ 100 = subst (λ k. k ≤ 2 ^ 100) c.unsigned_abs.ensures.value c.if-unsigned_abs-gt-MOST_OUT.false in
     let made = c.in-Ok.ensures.made (m.cells v) (three speeds) fluxed in
     (calm, out, is_near (2 ^ 100) sum near, new_of old blown v speeds m of c.requires.variable c.blow.ensures.told c.blow.ensures.meshes c.blow.ensures.flows c.settle.new.world c.settle.ensures.only c.take_over.new.world c.take_over.ensures.only made c.take_over.ensures.holds)

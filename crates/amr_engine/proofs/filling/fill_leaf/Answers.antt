@@ -1,5 +1,4 @@
-use Rattle.std.proofs.Common.{◌≡◌, ◌<◌, ap, length, subst, sym, ◌∙◌, List, ℤ}
-use Rattle.mesh_model.specs.Fields.Ranks.{world_with}
+use Rattle.std.proofs.Common.{◌≡◌, ap, length, subst, sym, ◌∙◌}
 use Rattle.mesh_model.specs.declared.fields.values.Var.TheVariants.{Cell}
 use Rattle.mesh_model.specs.Fields.Arrays.{var_length}
 use Rattle.mesh_model.specs.Tree.Kinds.{Grid}

@@ -1,7 +1,7 @@
 use Rattle.std.proofs.Common.{◌≡◌, ◌+◌, ◌<◌, length, sym, ap, subst, ◌∙◌, arith}
 use Rattle.block_tree.proofs.Facts.{known}
 use Rattle.block_tree.specs.Numbered.{IsNode, block_at}
-use Rattle.mesh_model.specs.Fields.Ranks.{IsFit, Told, WorldState}
+use Rattle.mesh_model.specs.Fields.Ranks.{IsFit, Told}
 use Rattle.mesh_model.specs.Tree.Kinds.{Grid, is_leaf_block}
 use Rattle.mesh_model.specs.Tree.Order.{nodes}
 use Rattle.mesh_model.specs.Tree.ValidGrid.{Valid}

@@ -1,4 +1,4 @@
-use Rattle.std.proofs.Common.{◌≡◌, ◌^◌, Ok, arith, refl, sym, ap, subst, ◌∙◌}
+use Rattle.std.proofs.Common.{◌^◌, Ok, arith, refl, sym, ap, subst, ◌∙◌}
 use Rattle.mesh_model.specs.Run.Texts.{mesh_text, size_text}
 use Rattle.mesh_model.specs.Run.TreeText.{tree_text}
 use Rattle.mesh_model.specs.declared.language.script.Command.TheVariants.{Advect, DerefineWhere, FillAll, FillBox, MarkDerefine, MarkRefine, PrintMesh, PrintSize, PrintTree, PrintVar, RefineWhere, Regrid, Total}
@@ -102,4 +102,3 @@ returns-in-PrintTree-clause-acts g c =
     let w : Written = record { before = g.K.Sink.taken c.args.sink.now; after = g.K.Sink.taken c.print_tree.new.sink; faults = g.K.Sink.faults c.args.sink.now; new_faults = g.K.Sink.faults c.print_tree.new.sink } in
     let printed = subst (λ grid. Prints c.print_tree.result w.before (tree_text grid) w.after w.faults w.new_faults) c.tree-in-PrintTree.ensures c.print_tree.ensures in
     acts_printing c.print_tree.result c.written-in-PrintTree.result m m c.args.command PrintTree w c.in-PrintTree.is refl refl refl printed c.written-in-PrintTree.ensures refl
-

@@ -1,4 +1,4 @@
-use Rattle.std.proofs.Common.{◌≡◌, ◌<◌, ◌^◌, Ok, Err, set, ℤ, arith, sym, subst, ap, ◌∙◌}
+use Rattle.std.proofs.Common.{◌≡◌, ◌<◌, ◌^◌, Ok, Err, set, arith, sym, subst}
 use Rattle.mesh_model.specs.declared.language.script.Command.TheVariants as commands
 use Rattle.mesh_model.specs.Fields.Advect.{advect, three}
 use Rattle.mesh_model.specs.Fields.Valid.{ValidMesh}
@@ -15,14 +15,21 @@ pub step-requires : goal.step-requires
 step-requires g c =
     let self = c.args.self.now in
     let m = mesh_of self.names self.world self.outs.items self.marks in
-    let valid = mesh_out m self.valid in
-    (
+    let valid = mesh_out m self.valid in (
       omega arith,
-      (self.fit,
-      (ready self.names self.world self.outs.items self.marks self.laid_out valid,
-      (subst (λ k. c.args.var < k) (sym self.laid_out.cells) c.requires.variable,
-      (c.requires.speeds,
-      read_small self.names self.world self.outs.items self.marks self.laid_out valid c.args.var c.requires.variable c.index-out.result.now c.index-out.ensures)))),
+      (
+        self.fit,
+        (
+          ready self.names self.world self.outs.items self.marks self.laid_out valid,
+          (
+            subst (λ k. c.args.var < k) (sym self.laid_out.cells) c.requires.variable,
+            (
+              c.requires.speeds,
+              read_small self.names self.world self.outs.items self.marks self.laid_out valid c.args.var c.requires.variable c.index-out.result.now c.index-out.ensures,
+            ),
+          ),
+        ),
+      ),
     )
 
 pub invariant_of-self : goal.invariant_of-self
@@ -66,8 +73,7 @@ returns-in-Ok-clause-changes g c =
     let told = c.step.ensures.told in
     let steps = c.step.ensures.steps m valid (of_now self.names self.world self.outs.items self.marks self.laid_out valid) (read_is self.names self.world self.outs.items self.marks self.laid_out valid c.args.var c.requires.variable c.index-out.result.now c.index-out.ensures) in
     let done : Steps m c.args.var c.args.speeds new (Ok c.in-Ok.out) = subst (Steps m c.args.var c.args.speeds new) c.in-Ok.is steps in
-    let kept = wide c.in-Ok.out (2 ^ 100) (small_out self.names self.world self.outs.items self.marks self.laid_out valid c.args.var c.requires.variable c.args.speeds c.requires.speeds new told c.in-Ok.out done) (omega arith) in
-    (
+    let kept = wide c.in-Ok.out (2 ^ 100) (small_out self.names self.world self.outs.items self.marks self.laid_out valid c.args.var c.requires.variable c.args.speeds c.requires.speeds new told c.in-Ok.out done) (omega arith) in (
       advect_allowed self.names self.world self.outs.items self.marks self.laid_out valid c.args.var c.requires.variable c.args.speeds c.requires.speeds new told c.in-Ok.out done,
       subst (λ z. mesh_of self.names new (set self.outs.items c.args.var z) self.marks ≡ advect m c.args.var (three c.args.speeds)) (sym kept) (advect_is self.names self.world self.outs.items self.marks self.laid_out valid c.args.var c.requires.variable c.args.speeds c.requires.speeds new told c.in-Ok.out done),
     )

@@ -1,6 +1,5 @@
 use Rattle.std.proofs.Common.{sym, subst}
 use Rattle.mesh_model.specs.Run.Runs.{KeepsOuts, KeepsTotals, StaysPositive}
-use Rattle.mesh_model.specs.Fields.Valid.{ValidMesh}
 use Rattle.mesh_model.proofs.RunLemmas.RunLaws.{keeps_outs, keeps_totals, stays_positive}
 use Rattle.amr_engine.specs.Plain.{plain}
 use Rattle.amr_engine.proofs.ValidOut.{mesh_out}

@@ -1,4 +1,4 @@
-use Rattle.std.proofs.Common.{◌≡◌, ◌<◌, arith, sym, subst, ap, ◌∙◌}
+use Rattle.std.proofs.Common.{◌<◌, arith, sym, subst}
 use Rattle.mesh_model.specs.Fields.Valid.{ValidMesh}
 use Rattle.amr_engine.specs.EngineMesh.{mesh_of}
 use Rattle.amr_engine.proofs.Made.{filled_is, filled_valid, laid_after, tree_now}
@@ -11,10 +11,16 @@ fill_leaves-requires g c =
     let self = c.args.self.now in
     let valid = mesh_out (mesh_of self.names self.world self.outs.items self.marks) self.valid in (
       omega arith,
-      (self.fit,
-      (subst (λ m. c.args.var < m) (sym self.laid_out.cells) c.requires.variable,
-      (region_small self.world.told.grid.shape (tree_now self.names self.world self.outs.items self.marks self.laid_out valid).shape c.args.fill.region c.requires.region,
-      c.requires.value))),
+      (
+        self.fit,
+        (
+          subst (λ m. c.args.var < m) (sym self.laid_out.cells) c.requires.variable,
+          (
+            region_small self.world.told.grid.shape (tree_now self.names self.world self.outs.items self.marks self.laid_out valid).shape c.args.fill.region c.requires.region,
+            c.requires.value,
+          ),
+        ),
+      ),
     )
 
 pub invariant_of-self : goal.invariant_of-self

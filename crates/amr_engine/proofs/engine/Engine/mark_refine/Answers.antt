@@ -1,4 +1,4 @@
-use Rattle.std.proofs.Common.{◌≡◌, ◌≤◌, true, IsErr, IfErr, OnOk, refl, sym, subst, ap, ◌∙◌}
+use Rattle.std.proofs.Common.{◌≡◌, true, IsErr, IfErr, OnOk, refl, sym, subst, ap, ◌∙◌}
 use Rattle.std.specs.Prelude.{◌↔◌}
 use Rattle.amr_num.specs.declared.BlockAt.{BlockAt}
 use Rattle.block_tree.specs.GridOf.{grid_of}
@@ -41,9 +41,9 @@ invariant_of-self-2 g c =
     let same : block_at (grid_of t) c.in-Some.node ≡ at = ap (λ h. block_at h c.in-Some.node) back ∙ c.in-Some.ensures.1.block in
     let leaf : is_leaf_block (grid_of t) at ≡ true = ap (λ h. is_leaf_block h at) back ∙ c.in-Some.ensures.0 in
     let made = refine_changes self.names self.world self.outs.items self.marks self.laid_out valid t at new is leaf told.marks result
-        (subst (λ (b : BlockAt). IsErr result ↔ (b.level ≡ (grid_of t).shape.max)) same told.refused)
-        (subst (λ (b : BlockAt). IfErr result (λ stop. stop ≡ record { level = b.level; limit = (grid_of t).shape.max })) same told.stop)
-        (subst (λ b. OnOk result (AddsBlock b (refine_of (grid_of t) self.marks) (refine_of (grid_of t) new))) same told.refine) told.derefine told.unchanged in
+    (subst (λ (b : BlockAt). IsErr result ↔ (b.level ≡ (grid_of t).shape.max)) same told.refused)
+    (subst (λ (b : BlockAt). IfErr result (λ stop. stop ≡ record { level = b.level; limit = (grid_of t).shape.max })) same told.stop)
+    (subst (λ b. OnOk result (AddsBlock b (refine_of (grid_of t) self.marks) (refine_of (grid_of t) new))) same told.refine) told.derefine told.unchanged in
     record {
       fit = self.fit;
       laid_out = record {
@@ -73,9 +73,9 @@ returns-in-Ok-clause-changes g c =
     let same : block_at (grid_of t) c.in-Some.node ≡ at = ap (λ h. block_at h c.in-Some.node) back ∙ c.in-Some.ensures.1.block in
     let leaf : is_leaf_block (grid_of t) at ≡ true = ap (λ h. is_leaf_block h at) back ∙ c.in-Some.ensures.0 in
     let made = refine_changes self.names self.world self.outs.items self.marks self.laid_out valid t at new is leaf told.marks result
-        (subst (λ (b : BlockAt). IsErr result ↔ (b.level ≡ (grid_of t).shape.max)) same told.refused)
-        (subst (λ (b : BlockAt). IfErr result (λ stop. stop ≡ record { level = b.level; limit = (grid_of t).shape.max })) same told.stop)
-        (subst (λ b. OnOk result (AddsBlock b (refine_of (grid_of t) self.marks) (refine_of (grid_of t) new))) same told.refine) told.derefine told.unchanged in
+    (subst (λ (b : BlockAt). IsErr result ↔ (b.level ≡ (grid_of t).shape.max)) same told.refused)
+    (subst (λ (b : BlockAt). IfErr result (λ stop. stop ≡ record { level = b.level; limit = (grid_of t).shape.max })) same told.stop)
+    (subst (λ b. OnOk result (AddsBlock b (refine_of (grid_of t) self.marks) (refine_of (grid_of t) new))) same told.refine) told.derefine told.unchanged in
     subst (λ r. Changes (at_limit r) m (commands.MarkRefine at) (mesh_of self.names self.world self.outs.items new)) c.in-Ok.is made
 
 pub returns-in-Err-clause-changes : goal.returns-in-Err-clause-changes
@@ -93,7 +93,7 @@ returns-in-Err-clause-changes g c =
     let same : block_at (grid_of t) c.in-Some.node ≡ at = ap (λ h. block_at h c.in-Some.node) back ∙ c.in-Some.ensures.1.block in
     let leaf : is_leaf_block (grid_of t) at ≡ true = ap (λ h. is_leaf_block h at) back ∙ c.in-Some.ensures.0 in
     let made = refine_changes self.names self.world self.outs.items self.marks self.laid_out valid t at new is leaf told.marks result
-        (subst (λ (b : BlockAt). IsErr result ↔ (b.level ≡ (grid_of t).shape.max)) same told.refused)
-        (subst (λ (b : BlockAt). IfErr result (λ stop. stop ≡ record { level = b.level; limit = (grid_of t).shape.max })) same told.stop)
-        (subst (λ b. OnOk result (AddsBlock b (refine_of (grid_of t) self.marks) (refine_of (grid_of t) new))) same told.refine) told.derefine told.unchanged in
+    (subst (λ (b : BlockAt). IsErr result ↔ (b.level ≡ (grid_of t).shape.max)) same told.refused)
+    (subst (λ (b : BlockAt). IfErr result (λ stop. stop ≡ record { level = b.level; limit = (grid_of t).shape.max })) same told.stop)
+    (subst (λ b. OnOk result (AddsBlock b (refine_of (grid_of t) self.marks) (refine_of (grid_of t) new))) same told.refine) told.derefine told.unchanged in
     subst (λ r. Changes (at_limit r) m (commands.MarkRefine at) (mesh_of self.names self.world self.outs.items new)) c.in-Err.is made

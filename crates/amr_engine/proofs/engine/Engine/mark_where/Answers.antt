@@ -1,4 +1,4 @@
-use Rattle.std.proofs.Common.{◌≡◌, ◌<◌, arith, sym, subst, ◌∙◌}
+use Rattle.std.proofs.Common.{◌<◌, arith, sym, subst, ◌∙◌}
 use Rattle.mesh_model.specs.Fields.Valid.{ValidMesh}
 use Rattle.amr_engine.specs.EngineMesh.{mesh_of}
 use Rattle.amr_engine.proofs.Made.{marks_now, where_is, where_valid}
@@ -9,9 +9,13 @@ pub mark_where-requires : goal.mark_where-requires
 mark_where-requires g c =
     let self = c.args.self.now in (
       omega arith,
-      (self.fit,
-      (subst (λ m. c.args.var < m) (sym self.laid_out.cells) c.requires.variable,
-      marks_now self.names self.world self.outs.items self.marks self.laid_out (mesh_out (mesh_of self.names self.world self.outs.items self.marks) self.valid))),
+      (
+        self.fit,
+        (
+          subst (λ m. c.args.var < m) (sym self.laid_out.cells) c.requires.variable,
+          marks_now self.names self.world self.outs.items self.marks self.laid_out (mesh_out (mesh_of self.names self.world self.outs.items self.marks) self.valid),
+        ),
+      ),
     )
 
 pub invariant_of-self : goal.invariant_of-self

@@ -1,4 +1,4 @@
-use Rattle.std.proofs.Common.{◌≡◌, ◌<◌, true, List, [], get_or, refl, sym, subst, ap, ◌∙◌}
+use Rattle.std.proofs.Common.{◌≡◌, ◌<◌, true, [], get_or, refl, sym, subst, ap, ◌∙◌}
 use Rattle.block_tree.specs.GridOf.{grid_of}
 use Rattle.block_tree.specs.Numbered.{IsNode, block_at}
 use Rattle.mesh_model.specs.declared.fields.values.Group.{Group}
@@ -17,7 +17,7 @@ use Rattle.amr_engine.specs.Plain.{plain}
 use Rattle.amr_engine.specs.Stopping.{Written}
 use Rattle.amr_engine.specs.declared.cause.Cause.TheVariants as causes
 use Rattle.amr_engine.proofs.Acted.{acts_printing, acts_refused}
-use Rattle.amr_engine.proofs.Made.{grid_is, name_is, of_now}
+use Rattle.amr_engine.proofs.Made.{grid_is, name_is}
 use Rattle.amr_engine.proofs.Named.{name_at}
 use Rattle.amr_engine.proofs.Printed.{guards_there}
 use Rattle.amr_engine.proofs.ValidOut.{mesh_out}

@@ -1,4 +1,4 @@
-use Rattle.std.proofs.Common.{◌≡◌, ◌^◌, List, ℕ, ℤ, pos, [], ◌∷◌, get_or, subst, sym, ap, ◌∙◌, arith}
+use Rattle.std.proofs.Common.{◌^◌, List, ℕ, ℤ, pos, [], ◌∷◌, get_or, subst, sym, ◌∙◌, arith}
 use Rattle.amr_num.specs.Numbers.{Within}
 use Rattle.std.specs.Fmt.{signed_decimal}
 use Rattle.std.specs.Prelude.{codes}
@@ -22,7 +22,7 @@ returns g c =
     let text : List ℕ → ℤ → ℤ → List ℕ = λ name total out. text_line (codes "total" ∷ name ∷ signed_decimal total ∷ codes "out" ∷ signed_decimal out ∷ []) in
     let told : List ℕ → ℤ → ℤ → Type 0 = λ name total out. Prints c.print_total.result (g.K.Sink.taken c.args.sink.now) (text name total out) (g.K.Sink.taken c.print_total.new.sink) (g.K.Sink.faults c.args.sink.now) (g.K.Sink.faults c.print_total.new.sink) in
     let total = wide c.total-total.result (2 ^ 85) c.total-total.ensures.small (omega arith)
-        ∙ total_now self.names self.world self.outs.items self.marks self.laid_out valid var c.requires c.total-total.result c.total-total.ensures.value in
+    ∙ total_now self.names self.world self.outs.items self.marks self.laid_out valid var c.requires c.total-total.result c.total-total.ensures.value in
     let out_is = out_now self.names self.world self.outs.items self.marks self.laid_out valid var c.requires c.index.result.now c.index.ensures in
     let small = out_small self.names self.world self.outs.items self.marks self.laid_out valid var c.requires in
     let out = wide c.index.result.now (2 ^ 100) (subst (λ z. Within (2 ^ 100) z) out_is small) (omega arith) ∙ sym out_is in

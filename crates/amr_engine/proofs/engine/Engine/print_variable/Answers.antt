@@ -1,4 +1,4 @@
-use Rattle.std.proofs.Common.{◌≡◌, ◌<◌, length, sym, subst, ◌∙◌}
+use Rattle.std.proofs.Common.{◌<◌, length, sym, subst, ◌∙◌}
 use Rattle.mesh_model.specs.Language.Commands.{IsGroup}
 use Rattle.mesh_model.specs.Run.Texts.{variable_text}
 use Rattle.amr_report.specs.Printing.{Prints}

@@ -1,4 +1,4 @@
-use Rattle.std.proofs.Common.{◌≡◌, ◌≤◌, length, arith, sym, subst, ap}
+use Rattle.std.proofs.Common.{◌≡◌, length, arith, sym, subst, ap}
 use Rattle.block_tree.specs.Marked.{IsUnmarked}
 use Rattle.block_tree.specs.Growing.{MayRegrow}
 use Rattle.block_tree.specs.GridOf.{grid_of}
@@ -30,12 +30,22 @@ regrid-requires g c =
     let m = mesh_of self.names self.world self.outs.items self.marks in
     let valid = mesh_out m self.valid in (
       omega arith,
-      (self.fit,
-      ((self.laid_out.faces, self.laid_out.edges),
-      (leaves_in_range self.world m (of_now self.names self.world self.outs.items self.marks self.laid_out valid) valid,
-      (subst (λ h. IsOnePerNode h plan.refine.items) c.tree.ensures c.in-Ok.ensures.refine_flags,
-      (subst (λ h. IsOnePerNode h plan.merge.items) c.tree.ensures c.in-Ok.ensures.merge_flags,
-      subst (λ h. MayRegrow h (refined_by h plan) (merged_by h plan)) c.tree.ensures c.in-Ok.ensures.may_regrow))))),
+      (
+        self.fit,
+        (
+          (self.laid_out.faces, self.laid_out.edges),
+          (
+            leaves_in_range self.world m (of_now self.names self.world self.outs.items self.marks self.laid_out valid) valid,
+            (
+              subst (λ h. IsOnePerNode h plan.refine.items) c.tree.ensures c.in-Ok.ensures.refine_flags,
+              (
+                subst (λ h. IsOnePerNode h plan.merge.items) c.tree.ensures c.in-Ok.ensures.merge_flags,
+                subst (λ h. MayRegrow h (refined_by h plan) (merged_by h plan)) c.tree.ensures c.in-Ok.ensures.may_regrow,
+              ),
+            ),
+          ),
+        ),
+      ),
     )
 
 pub reset-requires : goal.reset-requires

@@ -1,4 +1,4 @@
-use Rattle.std.proofs.Common.{refl, sym}
+use Rattle.std.proofs.Common.{sym}
 use Rattle.amr_engine.specs.EngineMesh.{mesh_of}
 use Rattle.amr_engine.proofs.Made.{grid_is, of_now}
 use Rattle.amr_engine.proofs.ValidOut.{mesh_out}
