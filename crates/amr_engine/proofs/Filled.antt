@@ -1,99 +1,97 @@
--- What a fill of a list of contents makes of the mesh.
-use Rattle.std.proofs.Common.{eq-eqb, ◌⊎◌, ◌≡◌, ◌≢◌, ℕ, zero, suc, ◌<◌, Bool, true, false, List, [], length, get_or, set, replicate, ℤ, pos, inl, inr, refl, sym, ap, subst, ◌∙◌, arith, get_or-set_other, get_or-set_same}
-use Rattle.std.proofs.Math.ListN.{length-set}
-use Rattle.std.proofs.lemmas.Bool.{cases_Bool, eqb-true}
-use Rattle.std.specs.Prelude.{◌==◌, if◌then◌else◌}
+-- Leaves that are filled hold the filled contents.
+use Rattle.std.proofs.Common.{◌≡◌, ℕ, ◌+◌, ◌<◌, ◌≤◌, true, false, List, ℤ, refl, sym, ap, subst, ◌∙◌, arith, inl, inr}
+use Rattle.std.specs.Prelude.{if◌then◌else◌}
+use Rattle.std.proofs.lemmas.Bool.{cases_lt}
+use Rattle.amr_num.specs.declared.BlockAt.{BlockAt}
 use Rattle.amr_num.specs.declared.CellAt.{CellAt}
-use Rattle.mesh_model.specs.declared.geometry.Shape.{Shape}
-use Rattle.mesh_model.specs.declared.language.script.Declared.{Declared}
-use Rattle.mesh_model.specs.Fields.Fill.{with_cells}
-use Rattle.mesh_model.specs.Tree.Kinds.{is_leaf}
-use Rattle.mesh_model.specs.Fields.Plain.{on_cells}
-use Rattle.mesh_model.specs.Tree.Start.{start_grid}
-use Rattle.mesh_model.specs.Fields.Start.{start_mesh}
-use Rattle.amr_engine.specs.Contents.{IsFilledBelow, IsRoots, IsUniform, cell_at, cell_count, content_in, place}
-use Rattle.amr_engine.specs.UniformMesh.{uniform_mesh}
-use Rattle.amr_engine.proofs.Uniform.{cell_again, leaf_is_cell, place_inside}
+use Rattle.mesh_model.specs.declared.fields.values.Var.TheVariants.{Cell}
+use Rattle.mesh_model.specs.Fields.ArrayPlaces.{HoldsViews}
+use Rattle.mesh_model.specs.Fields.Octants.{cells_of}
+use Rattle.mesh_model.specs.Fields.Ranks.{IsSized, OnlyOf, Told, WorldState}
+use Rattle.mesh_model.specs.Geometry.Places.{in_block}
+use Rattle.mesh_model.specs.Tree.Kinds.{Grid, is_leaf, is_leaf_block}
+use Rattle.mesh_model.specs.Tree.ValidGrid.{Valid}
+use Rattle.mesh_model.proofs.FieldLemmas.BlockOctants.{block_of_cell}
+use Rattle.mesh_model.proofs.FieldLemmas.CellSums.{view_leaf}
+use Rattle.mesh_model.proofs.FieldLemmas.ValidGrid.{leaf_whole}
+use Rattle.block_tree.specs.Numbered.{block_at}
+use Rattle.rank_world.specs.Holding.{IsLeafNode, LeavesHold, NodeHolds, cell_array}
+use Rattle.rank_world.specs.Holding.{OnlyCells}
+use Rattle.amr_engine.specs.Filling.{IsFilled}
+use Rattle.amr_engine.specs.Regions.{covers, filled_content}
+use Rattle.amr_engine.specs.declared.region.Fill.{Fill}
 
--- the contents after a fill, at each cell
-filled_at : (s : Shape) (row : IsRoots s) (old new : List ℤ) (value : ℤ) (test : CellAt → Bool) → length old ≡ cell_count s → IsFilledBelow (length old) (λ p. test (cell_at s p)) value old new → (c : CellAt) → on_cells (start_grid s) (content_in s new) c ≡ on_cells (start_grid s) (λ d. if test d then value else on_cells (start_grid s) (content_in s old) d) c
-filled_at s row old new value test whole filled c = elim (cases_Bool (is_leaf (start_grid s) c)) [
-  | inl leaf ↦
-      let cell = leaf_is_cell s c row leaf in
-      let inside : place s c < length old = let l = place_inside s c cell in omega arith in
-      rw leaf (filled.taken (place s c) inside ∙ ap (λ d. if test d then value else get_or old (place s c) (pos 0)) (cell_again s c cell))
-  | inr other ↦ rw other refl
-]
+-- a fill in the sizes of the world's blocks
+pub filled_sized : (n e : ℕ) (g : Grid) (b : BlockAt) (fill : Fill) (old new : List ℤ) → IsSized n e g.shape → IsFilled n e b fill old new → IsFilled g.shape.n g.shape.g b fill old new
+filled_sized n e g b fill old new sized is =
+    subst (λ m. IsFilled m g.shape.g b fill old new) (sym sized.cells) (subst (λ m. IsFilled n m b fill old new) (sym sized.guards) is)
 
--- one variable of a uniform mesh is filled
-pub filled_mesh : (d : Declared) (contents : List (List ℤ)) (outs : List ℤ) (var : ℕ) (new : List ℤ) (value : ℤ) (test : CellAt → Bool) → IsUniform d contents outs → var < length contents → IsFilledBelow (length (get_or contents var [])) (λ p. test (cell_at d.shape p)) value (get_or contents var []) new →
-    uniform_mesh d (set contents var new) outs ≡ with_cells (uniform_mesh d contents outs) var (on_cells (start_grid d.shape) (λ c. if test c then value else (uniform_mesh d contents outs).cells var c))
-unfolding uniform_mesh
-filled_mesh d contents outs var new value test uniform inside filled = λ i. record {
-  grid = start_grid d.shape;
-  names = d.names;
-  cells = λ v c. each v c (cases_Bool (v == var)) i;
-  outs = λ v. get_or outs v (pos 0);
-  faces = λ f. pos 0;
-  edges = λ e. pos 0;
-  refine = λ b. false;
-  derefine = λ b. false;
+-- an array that holds a field holds the filled one after the fill of a leaf
+pub array_filled : (g : Grid) (b : BlockAt) (fill : Fill) (content : CellAt → ℤ) (old new : List ℤ) → Valid g → is_leaf_block g b ≡ true → IsFilled g.shape.n g.shape.g b fill old new →
+    HoldsViews g content b (cells_of g old) → HoldsViews g (filled_content fill content) b (cells_of g new)
+array_filled g b fill content old new valid leaf is holds = record {
+  at = λ i j k hi hj hk.
+      let c = in_block g.shape.n b i j k in
+      let here : is_leaf g c ≡ true = ap (is_leaf_block g) (block_of_cell g.shape.n b i j k hi hj hk) ∙ leaf in
+      let whole = leaf_whole g valid c here in
+      is.written i j k hi hj hk
+      ∙ ap (λ x. if covers fill.region c then fill.value else x) (holds.at i j k hi hj hk ∙ view_leaf g content c whole here)
+      ∙ sym (view_leaf g (filled_content fill content) c whole here);
 }
-  where
-    after : CellAt → ℤ
-    after = on_cells (start_grid d.shape) (λ c. if test c then value else on_cells (start_grid d.shape) (content_in d.shape (get_or contents var [])) c)
 
-    each : (v : ℕ) (c : CellAt) → (v == var ≡ true) ⊎ (v == var ≡ false) → on_cells (start_grid d.shape) (content_in d.shape (get_or (set contents var new) v [])) c ≡ (if v == var then after else on_cells (start_grid d.shape) (content_in d.shape (get_or contents v []))) c
-    each v c (inl same) =
-        let e : v ≡ var = eqb-true v var same in
-        rw same (subst (λ w. on_cells (start_grid d.shape) (content_in d.shape (get_or (set contents var new) w [])) c ≡ after c) (sym e) (ap (λ list. on_cells (start_grid d.shape) (content_in d.shape list) c) (get_or-set_same contents var new [] inside) ∙ filled_at d.shape uniform.shape (get_or contents var []) new value test (uniform.whole var inside) filled c))
-    each v c (inr other) =
-        let ne : v ≢ var = λ e. (let odd : true ≡ false = sym (eq-eqb v var e) ∙ other in cc) in
-        rw other (ap (λ list. on_cells (start_grid d.shape) (content_in d.shape list) c) (get_or-set_other contents var v new [] ne))
+-- a node holds what it held where its array is as it was
+pub holds_same : (b c : WorldState) (v node : ℕ) (content : CellAt → ℤ) → c.told ≡ b.told → cell_array c v node ≡ cell_array b v node → NodeHolds b v content node → NodeHolds c v content node
+holds_same b c v node content told same holds =
+    subst (λ (t : Told). HoldsViews t.grid content (block_at t.grid node) (cells_of t.grid (cell_array c v node))) (sym told)
+    (subst (λ xs. HoldsViews b.told.grid content (block_at b.told.grid node) (cells_of b.told.grid xs)) (sym same) holds)
 
--- the mesh stays uniform
-pub still_uniform : (d : Declared) (contents : List (List ℤ)) (outs : List ℤ) (var : ℕ) (new : List ℤ) → IsUniform d contents outs → var < length contents → length new ≡ length (get_or contents var []) → IsUniform d (set contents var new) outs
-still_uniform d contents outs var new uniform inside size = record {
-  shape = uniform.shape;
-  faces = uniform.faces;
-  edges = uniform.edges;
-  each = length-set contents var new ∙ uniform.each;
-  flowed = uniform.flowed;
-  whole = λ v l. each v (omega (arith, length-set contents var new, l)) (cases_Bool (v == var));
+-- one more node of a variable is written
+pub cells_again : (a b c : WorldState) (v node : ℕ) → OnlyCells a b v → OnlyOf b c 0 (Cell v) node → OnlyCells a c v
+cells_again a b c v node before only = record {
+  told = only.told ∙ before.told;
+  others = λ u k apart. only.here.others u k (λ is at. apart is) ∙ before.others u k apart;
 }
-  where
-    each : (v : ℕ) → v < length contents → (v == var ≡ true) ⊎ (v == var ≡ false) → length (get_or (set contents var new) v []) ≡ cell_count d.shape
-    each v l (inl same) =
-        let e : v ≡ var = eqb-true v var same in
-        ap (λ w. length (get_or (set contents var new) w [])) e ∙ ap length (get_or-set_same contents var new [] inside) ∙ size ∙ uniform.whole var inside
-    each v l (inr other) =
-        let ne : v ≢ var = λ e. (let odd : true ≡ false = sym (eq-eqb v var e) ∙ other in cc) in
-        ap length (get_or-set_other contents var v new [] ne) ∙ uniform.whole v l
 
--- lists of zeros are the start mesh
-pub zero_mesh : (d : Declared) (variables count : ℕ) → uniform_mesh d (replicate variables (replicate count (pos 0))) (replicate variables (pos 0)) ≡ start_mesh d.shape d.names
-unfolding uniform_mesh
-zero_mesh d variables count = λ i. record {
-  grid = start_grid d.shape;
-  names = d.names;
-  cells = λ v c. each v c (cases_Bool (is_leaf (start_grid d.shape) c)) i;
-  outs = λ v. zero_at variables v i;
-  faces = λ f. pos 0;
-  edges = λ e. pos 0;
-  refine = λ b. false;
-  derefine = λ b. false;
-}
-  where
-    zero_at : (n p : ℕ) → get_or (replicate n (pos 0)) p (pos 0) ≡ pos 0
-    zero_at zero p = refl
-    zero_at (suc n) zero = refl
-    zero_at (suc n) (suc p) = zero_at n p
+pub only_none : (a : WorldState) (v : ℕ) → OnlyCells a a v
+only_none a v = record { told = refl; others = λ u node apart. refl }
 
-    zero_in : (k p v : ℕ) → get_or (get_or (replicate k (replicate count (pos 0))) v []) p (pos 0) ≡ pos 0
-    zero_in zero p v = refl
-    zero_in (suc k) p zero = zero_at count p
-    zero_in (suc k) p (suc v) = zero_in k p v
+-- the leaves below a node are filled, and the arrays from it on are as they were
+pub record AreFilledBelow (m : ℕ) (old new : WorldState) (v : ℕ) (fill : Fill) : Type 0 where
+  pub done : (content : CellAt → ℤ) → LeavesHold old v content → (k : ℕ) → k < m → IsLeafNode old.told.grid k → NodeHolds new v (filled_content fill content) k
+  pub waits : (k : ℕ) → m ≤ k → cell_array new v k ≡ cell_array old v k
 
-    each : (v : ℕ) (c : CellAt) → (is_leaf (start_grid d.shape) c ≡ true) ⊎ (is_leaf (start_grid d.shape) c ≡ false) → on_cells (start_grid d.shape) (content_in d.shape (get_or (replicate variables (replicate count (pos 0))) v [])) c ≡ pos 0
-    each v c (inl leaf) = rw leaf (zero_in variables (place d.shape c) v)
-    each v c (inr other) = rw other refl
+pub none_below : (w : WorldState) (v : ℕ) (fill : Fill) → AreFilledBelow 0 w w v fill
+none_below w v fill = record { done = λ content holds k h leaf. absurd (omega arith); waits = λ k h. refl }
+
+module _ (n g : ℕ) (m : ℕ) (old now new : WorldState) (v : ℕ) (fill : Fill) (is : AreFilledBelow m old now v fill) (before : OnlyCells old now v) where
+  -- a leaf is filled
+  pub leaf_filled : Valid now.told.grid → IsSized n g now.told.grid.shape → IsLeafNode now.told.grid m → OnlyOf now new 0 (Cell v) m → IsFilled n g (block_at now.told.grid m) fill (cell_array now v m) (cell_array new v m) →
+      AreFilledBelow (m + 1) old new v fill
+  leaf_filled valid sized leaf only filled = record {
+    done = λ content holds k h there. elim (cases_lt k m) [
+      | inl less ↦ holds_same now new v k (filled_content fill content) only.told (only.here.others (Cell v) k (λ u e. omega arith)) (is.done content holds k less there)
+      | inr more ↦ (
+          let last : k ≡ m = omega arith in
+          let grid = now.told.grid in
+          let was : NodeHolds now v content m = holds_same old now v m content before.told (is.waits m (omega arith)) (subst (NodeHolds old v content) last (holds k there)) in
+          let xs = cell_array new v m in
+          let here : HoldsViews grid (filled_content fill content) (block_at grid m) (cells_of grid xs) =
+          array_filled grid (block_at grid m) fill content (cell_array now v m) xs valid leaf.leaf (filled_sized n g grid (block_at grid m) fill (cell_array now v m) xs sized filled) was in
+          subst (NodeHolds new v (filled_content fill content)) (sym last)
+          (subst (λ (t : Told). HoldsViews t.grid (filled_content fill content) (block_at t.grid m) (cells_of t.grid xs)) (sym only.told) here))
+    ];
+    waits = λ k h. only.here.others (Cell v) k (λ u e. omega arith) ∙ is.waits k (omega arith);
+  }
+
+  -- a node that is no leaf is passed over
+  pub node_passed : is_leaf_block now.told.grid (block_at now.told.grid m) ≡ false → AreFilledBelow (m + 1) old now v fill
+  node_passed inner = record {
+    done = λ content holds k h there. elim (cases_lt k m) [
+      | inl less ↦ is.done content holds k less there
+      | inr more ↦ absurd (
+          let last : k ≡ m = omega arith in
+          let leaf : is_leaf_block now.told.grid (block_at now.told.grid m) ≡ true = subst (λ (t : Told). is_leaf_block t.grid (block_at t.grid m) ≡ true) (sym before.told) (subst (λ u. is_leaf_block old.told.grid (block_at old.told.grid u) ≡ true) last there.leaf) in
+          cc)
+    ];
+    waits = λ k h. is.waits k (omega arith);
+  }

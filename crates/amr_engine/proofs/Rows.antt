@@ -1,53 +1,46 @@
--- Parts of a list by places, and sums over places.
-use Rattle.std.proofs.Common.{Bool, true, false, ◌≢◌, set, below_more, get_or-set_other, get_or-set_same, ◌≡◌, ℕ, zero, suc, ◌+◌, ◌<◌, ◌≤◌, List, [], ◌∷◌, ◌++◌, length, get_or, take, drop, map, refl, sym, ap, ap₂, ◌∙◌, arith, ℤ, pos, length-drop}
-use Rattle.std.proofs.Math.Seq.{take-suc}
-use Rattle.std.proofs.lemmas.List.{get_or-drop}
-use Rattle.std.proofs.lemmas.List.FromFn.{get_or-map-range_with_len, length-map-range_with_len, map-range_with_len_more}
-use Rattle.std.proofs.Math.ListN.{length-set}
-use Rattle.amr_engine.specs.Contents.{IsFilledBelow}
-use Rattle.amr_num.proofs.Parts.{sum_below_same}
-use Rattle.std.specs.List.{range_with_len}
-use Rattle.amr_num.specs.Numbers.{sum_below}
+-- Rows of a block's cells that are filled.
+use Rattle.std.proofs.Common.{◌≡◌, ℕ, ◌+◌, ◌<◌, true, false, List, length, set, take, drop, ℤ, pos, refl, sym, ap, ◌∙◌, arith, inl, inr}
+use Rattle.std.specs.Prelude.{if◌then◌else◌}
+use Rattle.std.proofs.lemmas.Bool.{cases_lt}
+use Rattle.std.proofs.lemmas.List.{get_or-drop, get_or-set_other, get_or-set_same, get_or-take, length-set}
+use Rattle.amr_num.specs.Numbers.{at}
+use Rattle.amr_num.specs.declared.BlockAt.{BlockAt}
+use Rattle.mesh_model.specs.Geometry.Places.{in_block}
+use Rattle.amr_engine.specs.Filling.{IsFilledBelow}
+use Rattle.amr_engine.specs.Regions.{covers}
+use Rattle.amr_engine.specs.declared.region.Fill.{Fill}
 
--- the first n numbers from place p on, by their places
-pub part_by_places : (list : List ℤ) (p n : ℕ) → p + n ≤ length list → take n (drop p list) ≡ map (λ i. get_or list (p + i) (pos 0)) (range_with_len 0 n)
-part_by_places list p zero h = refl
-part_by_places list p (suc n) h =
-    let before = part_by_places list p n (omega arith) in
-    let more = map-range_with_len_more (λ i. get_or list (p + i) (pos 0)) 0 n n (omega arith) in
-    let next : suc n ≡ n + 1 = omega arith in
-    let one : take (suc n) (drop p list) ≡ take n (drop p list) ++ (get_or (drop p list) n (pos 0) ∷ []) = take-suc (drop p list) n (pos 0) (simp length-drop (omega arith)) in
-    let same : get_or (drop p list) n (pos 0) ≡ get_or list (p + n) (pos 0) = get_or-drop p list n (pos 0) in
-    one ∙ ap₂ (λ (a : List ℤ) (b : ℤ). a ++ (b ∷ [])) before same ∙ sym more ∙ ap (λ m. map (λ i. get_or list (p + i) (pos 0)) (range_with_len 0 m)) (sym next)
-
--- maps by functions that agree below n
-pub map_places_same : {X : Type 0} (f g : ℕ → X) (n : ℕ) → ((i : ℕ) → i < n → f i ≡ g i) → map f (range_with_len 0 n) ≡ map g (range_with_len 0 n)
-map_places_same f g zero h = refl
-map_places_same {X} f g (suc n) h =
-    let next : suc n ≡ n + 1 = omega arith in
-    let more_f = map-range_with_len_more f 0 n n (omega arith) in
-    let more_g = map-range_with_len_more g 0 n n (omega arith) in
-    ap (λ m. map f (range_with_len 0 m)) next ∙ more_f ∙ ap₂ (λ (a : List X) (b : X). a ++ (b ∷ [])) (map_places_same f g n (λ i l. h i (omega arith))) (h n (omega arith)) ∙ sym more_g ∙ ap (λ m. map g (range_with_len 0 m)) (sym next)
-
--- the sum of a row that is given by its places
-pub row_sum : (f : ℕ → ℤ) (xs : List ℤ) (n : ℕ) → xs ≡ map f (range_with_len 0 n) → sum_below (length xs) (λ i. get_or xs i (pos 0)) ≡ sum_below n f
-row_sum f xs n e =
-    let size : length xs ≡ n = ap length e ∙ length-map-range_with_len f 0 n in
-    ap (λ m. sum_below m (λ i. get_or xs i (pos 0))) size
-    ∙ sum_below_same n (λ i. get_or xs i (pos 0)) f (λ i l. ap (λ ys. get_or ys i (pos 0)) e ∙ get_or-map-range_with_len f 0 n i i (pos 0) l (omega arith))
-
--- one more place is looked at: it takes the value, or stays
-module _ (k : ℕ) (test : ℕ → Bool) (value : ℤ) (old now : List ℤ) (so_far : IsFilledBelow k test value old now) where
-  pub takes : k < length now → test k ≡ true → IsFilledBelow (k + 1) test value old (set now k value)
-  takes inside passed = record {
-    size = length-set now k value ∙ so_far.size;
-    taken = below_more _ _ (λ p l. let other : p ≢ k = omega arith in rw get_or-set_other (so_far.taken p l)) (rw (get_or-set_same now k value (pos 0) inside, passed) refl);
-    stays = λ p l. let other : p ≢ k = omega arith in rw get_or-set_other (so_far.stays p (omega arith));
+module _ (m : ℕ) (old now : List ℤ) (b : BlockAt) (j k : ℕ) (fill : Fill) (is : IsFilledBelow m old now b j k fill) (within : m < length old) where
+  -- the next cell takes the value
+  pub takes : covers fill.region (in_block (length old) b m j k) ≡ true → IsFilledBelow (m + 1) old (set now m fill.value) b j k fill
+  takes covered = record {
+    size = length-set now m fill.value ∙ is.size;
+    done = λ i h. elim (cases_lt i m) [
+      | inl less ↦ get_or-set_other now m i fill.value (pos 0) (λ e. omega arith) ∙ is.done i less
+      | inr more ↦ (
+          let last : i ≡ m = omega arith in
+          ap (λ u. at (set now m fill.value) u) last ∙ get_or-set_same now m fill.value (pos 0) (omega (arith, is.size))
+          ∙ sym (ap (λ t. if t then fill.value else at old i) (ap (λ u. covers fill.region (in_block (length old) b u j k)) last ∙ covered)))
+    ];
+    waits = λ i h. get_or-set_other now m i fill.value (pos 0) (λ e. omega arith) ∙ is.waits i (omega arith);
   }
 
-  pub passes : test k ≡ false → IsFilledBelow (k + 1) test value old now
-  passes failed = record {
-    size = so_far.size;
-    taken = below_more _ _ so_far.taken (rw failed (so_far.stays k (omega arith)));
-    stays = λ p l. so_far.stays p (omega arith);
+  -- or keeps what it had
+  pub keeps : covers fill.region (in_block (length old) b m j k) ≡ false → IsFilledBelow (m + 1) old now b j k fill
+  keeps not_covered = record {
+    size = is.size;
+    done = λ i h. elim (cases_lt i m) [
+      | inl less ↦ is.done i less
+      | inr more ↦ (
+          let last : i ≡ m = omega arith in
+          is.waits i (omega arith) ∙ sym (ap (λ t. if t then fill.value else at old i) (ap (λ u. covers fill.region (in_block (length old) b u j k)) last ∙ not_covered)))
+    ];
+    waits = λ i h. is.waits i (omega arith);
   }
+
+pub none_filled : (old : List ℤ) (b : BlockAt) (j k : ℕ) (fill : Fill) → IsFilledBelow 0 old old b j k fill
+none_filled old b j k fill = record { size = refl; done = λ i h. absurd (omega arith); waits = λ i h. refl }
+
+-- a part of a list has the list's numbers
+pub part_at : (xs : List ℤ) (start many t : ℕ) → t < many → at (take many (drop start xs)) t ≡ at xs (start + t)
+part_at xs start many t h = get_or-take many (drop start xs) t (pos 0) h ∙ get_or-drop start xs t (pos 0)

@@ -1,66 +1,85 @@
--- What is printed of the mesh is what its lists of contents have.
-use Rattle.std.proofs.Common.{◌≡◌, ℕ, ◌<◌, ◌+ℤ◌, List, [], ◌∷◌, get_or, ℤ, refl, sym, ap₂, ◌∙◌, arith, inl, inr}
-use Rattle.amr_num.proofs.Parts.{sum_below_same}
+-- The mesh that an engine stands for is the mesh of which its world is.
+use Rattle.std.proofs.Common.{◌≡◌, ℕ, ◌<◌, ◌≤◌, true, false, List, length, get_or, ℤ, pos, None, refl, sym, ap, subst, ◌∙◌, arith, inl, inr}
+use Rattle.std.specs.Prelude.{if◌then◌else◌, nat_lt}
+use Rattle.std.proofs.lemmas.Bool.{cases_lt, le-ltb, lt-ltb}
 use Rattle.amr_num.specs.declared.BlockAt.{BlockAt}
-use Rattle.mesh_model.specs.declared.geometry.Shape.{Shape}
-use Rattle.mesh_model.specs.declared.language.script.Declared.{Declared}
-use Rattle.mesh_model.specs.declared.fields.values.Group.TheVariants.{Cell}
-use Rattle.mesh_model.specs.Tree.Order.{IsIn}
-use Rattle.mesh_model.specs.Tree.Kinds.{Grid}
-use Rattle.mesh_model.specs.Fields.Plain.{on_cells}
-use Rattle.mesh_model.specs.Tree.Start.{start_grid, start_leaves}
-use Rattle.mesh_model.specs.Run.Texts.{group_name}
+use Rattle.amr_num.specs.declared.CellAt.{CellAt}
+use Rattle.block_tree.specs.Marked.{derefine_of, refine_of}
+use Rattle.block_tree.specs.declared.marks.Marks.{Marks}
+use Rattle.mesh_model.specs.Fields.Plain.{Mesh, on_cells}
+use Rattle.mesh_model.specs.Fields.Ranks.{WorldState}
+use Rattle.mesh_model.specs.Fields.Valid.{ValidMesh}
+use Rattle.mesh_model.specs.Fields.VariableNames.{VariableNames}
+use Rattle.mesh_model.specs.Tree.Kinds.{Grid, is_leaf, is_leaf_block}
+use Rattle.mesh_model.specs.Tree.Order.{Sorted}
+use Rattle.mesh_model.specs.Tree.ValidGrid.{Valid}
 use Rattle.mesh_model.specs.Geometry.Places.{in_block}
-use Rattle.mesh_model.specs.Fields.Totals.{block_sum, box_sum, sum_over, total}
-use Rattle.amr_engine.specs.Contents.{IsBlock, IsRoots, content_in}
-use Rattle.amr_engine.specs.Values.{number_in}
-use Rattle.amr_report.specs.Values.{HasViews}
+use Rattle.mesh_model.proofs.FieldLemmas.BlockOctants.{block_of_cell}
+use Rattle.mesh_model.proofs.FieldLemmas.CellSums.{view_leaf}
+use Rattle.mesh_model.proofs.FieldLemmas.LeafSums.{on_leaf}
+use Rattle.mesh_model.proofs.FieldLemmas.ValidGrid.{leaf_whole}
 use Rattle.block_tree.specs.Numbered.{block_at}
-use Rattle.amr_engine.proofs.Numbered.{node_is_block}
-use Rattle.amr_engine.specs.UniformMesh.{uniform_mesh}
-use Rattle.amr_engine.proofs.Uniform.{cell_is_leaf, leaf_is_block}
+use Rattle.rank_world.specs.Contents.{contents_of}
+use Rattle.rank_world.specs.Holding.{IsOfMesh, LeavesHold}
+use Rattle.rank_world.proofs.Contents.{contents_are, leaves_hold}
+use Rattle.amr_engine.specs.EngineMesh.{IsLaidOut, mesh_of}
 
--- in a root the mesh has what the list has
-shown : (s : Shape) (roots : IsRoots s) (list : List ℤ) (b : BlockAt) (i j k : ℕ) → IsBlock s b → i < s.n → j < s.n → k < s.n → on_cells (start_grid s) (content_in s list) (in_block s.n b i j k) ≡ content_in s list (in_block s.n b i j k)
-shown s roots list b i j k block hi hj hk = rw (cell_is_leaf s b i j k roots block hi hj hk) refl
-
--- sums of what agrees on the blocks
-sum_over_same : (f g : BlockAt → ℤ) (bs : List BlockAt) → ((b : BlockAt) → IsIn b bs → f b ≡ g b) → sum_over f bs ≡ sum_over g bs
-sum_over_same f g [] h = refl
-sum_over_same f g (b ∷ bs) h = ap₂ (λ (u v : ℤ). u +ℤ v) (h b (inl refl)) (sum_over_same f g bs (λ c i. h c (inr i)))
-
--- the total of a list of contents
-pub total_of_field : (s : Shape) (list : List ℤ) → IsRoots s → total (start_grid s) (on_cells (start_grid s) (content_in s list)) ≡ sum_over (block_sum s.n (content_in s list)) (start_leaves s)
-unfolding box_sum
-total_of_field s list roots = sum_over_same _ _ (start_leaves s) (λ b there.
-    let block = leaf_is_block s b there in
-    sum_below_same s.n _ _ (λ k hk. sum_below_same s.n _ _ (λ j hj. sum_below_same s.n _ _ (λ i hi. shown s roots list b i j k block hi hj hk))))
-
--- the total of a variable
-pub total_shown : (d : Declared) (contents : List (List ℤ)) (outs : List ℤ) (var : ℕ) → IsRoots d.shape → total (uniform_mesh d contents outs).grid ((uniform_mesh d contents outs).cells var) ≡ sum_over (block_sum d.shape.n (content_in d.shape (get_or contents var []))) (start_leaves d.shape)
-unfolding uniform_mesh
-total_shown d contents outs var roots = total_of_field d.shape (get_or contents var []) roots
-
--- the grid of the mesh
-pub grid_shown : (d : Declared) (contents : List (List ℤ)) (outs : List ℤ) → (uniform_mesh d contents outs).grid ≡ start_grid d.shape
-unfolding uniform_mesh
-grid_shown d contents outs = refl
-
--- the name of a variable
-pub name_shown : (d : Declared) (contents : List (List ℤ)) (outs : List ℤ) (var : ℕ) → group_name (uniform_mesh d contents outs).names (Cell var) ≡ get_or d.names.cells var []
-unfolding uniform_mesh
-name_shown d contents outs var = refl
-
--- the numbers of a variable
-pub views_shown : (d : Declared) (contents : List (List ℤ)) (outs : List ℤ) (var : ℕ) (list : List ℤ) (g : Grid) → IsRoots d.shape → get_or contents var [] ≡ list → g ≡ start_grid d.shape → HasViews (number_in d.shape g list) (uniform_mesh d contents outs) (Cell var)
-unfolding uniform_mesh
-views_shown d contents outs var list g roots is here = record {
-  each = λ node there leaf a i j k place.
-      let s = d.shape in
-      let b = block_at (start_grid s) node in
-      let block : IsBlock s b = node_is_block s (start_grid s) refl node there in
-      let x : i < s.n = omega (arith, place.x) in
-      let y : j < s.n = omega (arith, place.y) in
-      let z : k < s.n = omega (arith, place.z) in
-      ap₂ (λ h xs. content_in s xs (in_block s.n (block_at h node) i j k)) here (sym is) ∙ sym (shown s roots (get_or contents var []) b i j k block x y z);
+-- leaves that hold a field hold each that agrees with it on leaf cells
+pub leaves_same : (w : WorldState) (v : ℕ) (content other : CellAt → ℤ) → Valid w.told.grid → ((c : CellAt) → is_leaf w.told.grid c ≡ true → other c ≡ content c) → LeavesHold w v content → LeavesHold w v other
+leaves_same w v content other valid same holds node leaf = record {
+  at = λ i j k hi hj hk.
+      let g = w.told.grid in
+      let b = block_at g node in
+      let c = in_block g.shape.n b i j k in
+      let here : is_leaf g c ≡ true = ap (is_leaf_block g) (block_of_cell g.shape.n b i j k hi hj hk) ∙ leaf.leaf in
+      let whole = leaf_whole g valid c here in
+      (holds node leaf).at i j k hi hj hk ∙ view_leaf g content c whole here ∙ sym (view_leaf g other c whole here ∙ same c here);
 }
+
+pub leaves_on : (w : WorldState) (v : ℕ) (content : CellAt → ℤ) → Valid w.told.grid → LeavesHold w v content → LeavesHold w v (on_cells w.told.grid content)
+leaves_on w v content valid holds = leaves_same w v content (on_cells w.told.grid content) valid (λ c here. on_leaf w.told.grid content c here) holds
+
+-- a world is that of the mesh that it stands for
+pub own_mesh : (names : VariableNames) (w : WorldState) (outs : List ℤ) (marks : Marks) → IsLaidOut names w outs marks → Valid w.told.grid → Sorted w.told.grid.leaves → IsOfMesh w (mesh_of names w outs marks)
+unfolding mesh_of
+own_mesh names w outs marks laid valid order = record {
+  grid = refl;
+  cells = laid.cells;
+  faces = (λ zero. laid.face, λ none. laid.faces);
+  edges = (λ zero. laid.edge, λ none. laid.edges);
+  contents = λ v below.
+      let there : nat_lt v (length names.cells) ≡ true = lt-ltb v (length names.cells) (omega (arith, laid.cells, below)) in
+      subst (λ t. LeavesHold w v (λ c. if t then contents_of w v c else pos 0)) (sym there) (leaves_hold w v valid order);
+}
+
+-- and stands for the mesh whose world it is
+pub mesh_shown : (names : VariableNames) (w : WorldState) (outs : List ℤ) (marks : Marks) (m : Mesh) → IsOfMesh w m → ValidMesh m → names ≡ m.names → names.face ≡ None → names.edge ≡ None →
+    ((v : ℕ) → get_or outs v (pos 0) ≡ m.outs v) → ((b : BlockAt) → refine_of w.told.grid marks b ≡ m.refine b) → ((b : BlockAt) → derefine_of w.told.grid marks b ≡ m.derefine b) →
+    mesh_of names w outs marks ≡ m
+unfolding mesh_of
+mesh_shown names w outs marks m of valid named face edge flowed refine derefine =
+    let same_names : names.cells ≡ m.names.cells = ap (λ (n : VariableNames). n.cells) named in
+    let grid : Valid w.told.grid = subst Valid (sym of.grid) valid.grid in
+    let order : Sorted w.told.grid.leaves = subst (λ (g : Grid). Sorted g.leaves) (sym of.grid) valid.order in
+    let cell : (v : ℕ) (c : CellAt) → (if nat_lt v (length names.cells) then contents_of w v c else pos 0) ≡ m.cells v c = λ v c.
+    elim (cases_lt v (length names.cells)) [
+      | inl below ↦ (
+          let there : v < length m.names.cells = subst (λ (l : List (List ℕ)). v < length l) same_names below in
+          ap (λ t. if t then contents_of w v c else pos 0) (lt-ltb v (length names.cells) below)
+          ∙ contents_are w v grid order (m.cells v) (of.contents v (omega (arith, of.cells, there))) (λ d off. valid.numbers.cells v d (subst (λ g. is_leaf g d ≡ false) of.grid off)) c)
+      | inr past ↦ (
+          let far : length m.names.cells ≤ v = subst (λ (l : List (List ℕ)). length l ≤ v) same_names past in
+          ap (λ t. if t then contents_of w v c else pos 0) (le-ltb v (length names.cells) past) ∙ sym (valid.declared.cells v far c))
+    ] in
+    let no_face = ap (λ (n : VariableNames). n.face) (sym named) ∙ face in
+    let no_edge = ap (λ (n : VariableNames). n.edge) (sym named) ∙ edge in
+    λ i. record {
+      grid = of.grid i;
+      names = named i;
+      cells = λ v c. cell v c i;
+      outs = λ v. flowed v i;
+      faces = λ f. sym (valid.declared.faces no_face f) i;
+      edges = λ e. sym (valid.declared.edges no_edge e) i;
+      refine = λ b. refine b i;
+      derefine = λ b. derefine b i;
+    }

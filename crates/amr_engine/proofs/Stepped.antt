@@ -1,71 +1,174 @@
--- Steps of cells, rows, planes and blocks, one after the other.
-use Rattle.std.proofs.Common.{◌≡◌, ◌⊎◌, OnOk, ℕ, ℤ, ◌+◌, ◌<◌, List, [], ◌∷◌, ◌++◌, Some, None, Result, Ok, Err, find, refl, sym, ap, ◌∙◌, subst, inl, inr}
-use Rattle.std.proofs.lemmas.List.Folds.{find-append}
-use Rattle.std.specs.Prelude.{flat_map}
-use Rattle.std.specs.List.{range_with_len}
-use Rattle.std.specs.Option.{option_or}
+-- The arrays of a leaf before and after a step.
+use Rattle.std.proofs.Common.{◌≡◌, ℕ, ◌+◌, ◌*◌, ◌^◌, ◌<◌, ◌≤◌, Bool, true, false, List, ℤ, pos, ◌+ℤ◌, Option, Some, None, refl, sym, ap, subst, ◌∙◌, arith, inl, inr}
+use Rattle.std.specs.Prelude.{if◌then◌else◌}
+use Rattle.std.specs.Option.{option_map}
+use Rattle.amr_num.specs.Numbers.{Within}
+use Rattle.amr_num.specs.declared.Axis.{Axis}
+use Rattle.amr_num.specs.declared.Axis.TheVariants.{X, Y, Z}
+use Rattle.amr_num.specs.declared.BlockAt.{BlockAt}
 use Rattle.amr_num.specs.declared.CellAt.{CellAt}
+use Rattle.amr_num.proofs.Sizes.{sum_within, within_add, within_less}
+use Rattle.block_store.specs.Above.{first_in_block}
+use Rattle.block_store.specs.declared.above.Above as stores
+use Rattle.block_tree.specs.Numbered.{block_at}
+use Rattle.mesh_model.specs.Fields.Advect.{Speeds, advected}
+use Rattle.mesh_model.specs.Fields.ArrayPlaces.{IsSize, cell_extents, face_extents, number_at}
+use Rattle.mesh_model.specs.Fields.Octants.{cells_of}
+use Rattle.mesh_model.specs.Fields.Ranks.{IsSized, WorldState}
+use Rattle.mesh_model.specs.Fields.Totals.{block_sum}
+use Rattle.mesh_model.specs.Geometry.Places.{in_block}
+use Rattle.mesh_model.specs.Tree.Kinds.{Grid}
+use Rattle.mesh_model.specs.Tree.ValidGrid.{Valid}
 use Rattle.mesh_model.specs.declared.geometry.Shape.{Shape}
-use Rattle.amr_engine.specs.declared.advection.Above.{Above}
-use Rattle.amr_engine.specs.Contents.{IsCell}
-use Rattle.amr_engine.specs.Stepping.{FindsExcess, Holds, IsAmong, Steps, is_excess}
-use Rattle.amr_report.proofs.Printed.{flat_after, flat_next}
+use Rattle.rank_world.specs.Holding.{IsLeafNode, cell_array}
+use Rattle.flux_conserve.specs.Work.{work_array}
+use Rattle.regrid_move.proofs.Stops.{inside_of}
+use Rattle.step_advect.specs.Applied.{AreInRange, Flows, IsApplied, face_on, first_out, flows_in, inner, is_chosen, left_at, out_along, out_through, side_sum}
+use Rattle.step_advect.specs.Fluxed.{AreFacesWithin}
+use Rattle.step_advect.specs.Lifts.{AreOuterSides, HoldsFlows, first_above}
+use Rattle.step_advect.specs.declared.update.RangeAt.{RangeAt}
+use Rattle.step_advect.proofs.Nets.{left_advected}
+use Rattle.step_advect.proofs.OuterSides.{all_lost}
+use Rattle.step_advect.proofs.Ranges.{first_told, told}
+use Rattle.step_advect.proofs.Refusals.{none_refused, refused_first}
+use Rattle.amr_engine.specs.Settling.{AreFluxed, HoldsContents, IsLost, IsRefused, MaySettle, flows_at, lost, node_above}
+use Rattle.amr_engine.specs.declared.hindrance.Above.{Above}
 
-among_either : (c : CellAt) (xs ys : List CellAt) → IsAmong c (xs ++ ys) → IsAmong c xs ⊎ IsAmong c ys
-among_either c [] ys h = inr h
-among_either c (x ∷ xs) ys (inl e) = inl (inl e)
-among_either c (x ∷ xs) ys (inr h) = elim (among_either c xs ys h) [ inl l ↦ inl (inr l) | inr r ↦ inr r ]
+-- what holds in the grid's sizes holds in those of the code
+pub in_sizes : (P : ℕ → ℕ → Type 0) (n e : ℕ) (s : Shape) → IsSized n e s → P s.n s.g → P n e
+in_sizes P n e s sized p = subst (λ m. P m e) sized.cells (subst (P s.n) sized.guards p)
 
-module _ (s : Shape) (contents speeds : List ℤ) where
-  found_first : (xs ys : List CellAt) (c : CellAt) → find (is_excess s contents speeds) xs ≡ Some c → find (is_excess s contents speeds) (xs ++ ys) ≡ Some c
-  found_first xs ys c h = find-append (is_excess s contents speeds) xs ys ∙ ap (λ o. option_or o (find (is_excess s contents speeds) ys)) h
+pub in_shape : (P : ℕ → ℕ → Type 0) (n e : ℕ) (s : Shape) → IsSized n e s → P n e → P s.n s.g
+in_shape P n e s sized p = subst (λ m. P m s.g) (sym sized.cells) (subst (P n) (sym sized.guards) p)
 
-  found_later : (xs ys : List CellAt) → find (is_excess s contents speeds) xs ≡ None → find (is_excess s contents speeds) (xs ++ ys) ≡ find (is_excess s contents speeds) ys
-  found_later xs ys h = find-append (is_excess s contents speeds) xs ys ∙ ap (λ o. option_or o (find (is_excess s contents speeds) ys)) h
+module _ (n e : ℕ) (w : WorldState) (v node : ℕ) where
+  -- a leaf's numbers are small
+  pub range_of : MaySettle n e w v → IsLeafNode w.told.grid node → AreInRange n (inner e (number_at (cell_extents n e) (cell_array w v node)))
+  range_of may leaf =
+      let s = w.told.grid.shape in
+      let here : AreInRange s.n (inner s.g (number_at (cell_extents s.n s.g) (cell_array w v node))) = record { at = (may.range v node may.variable leaf).cells } in
+      in_sizes (λ m d. AreInRange m (inner d (number_at (cell_extents m d) (cell_array w v node)))) n e s may.fit.sizes here
 
-  found_after : (xs ys : List CellAt) (r : Result (Unit {0}) Above) → find (is_excess s contents speeds) xs ≡ None → FindsExcess s contents speeds ys r → FindsExcess s contents speeds (xs ++ ys) r
-  found_after xs ys (Ok done) none h = found_later xs ys none ∙ h
-  found_after xs ys (Err above) none h = (found_later xs ys none ∙ h.0, h.1)
+  pub faces_of : (a : Axis) → MaySettle n e w v → IsLeafNode w.told.grid node → AreFacesWithin (2 ^ 58) n e a (number_at (face_extents n e a) (work_array w a node))
+  faces_of a may leaf =
+      let s = w.told.grid.shape in
+      let here : AreFacesWithin (2 ^ 58) s.n s.g a (number_at (face_extents s.n s.g a) (work_array w a node)) = record { at = (may.small node a leaf).at } in
+      in_sizes (λ m d. AreFacesWithin (2 ^ 58) m d a (number_at (face_extents m d a) (work_array w a node))) n e s may.fit.sizes here
 
-  -- no cell yet
-  pub no_step : (list : List ℤ) → Steps s contents speeds [] (Ok tt) list list
-  no_step list = record { size = refl; kept = λ c cell holds. holds; made = λ c cell among. absurd among; found = refl }
+  -- arrays that are lent are the node's
+  pub in_flows : (P : Flows → Type 0) (cells fx fy fz : List ℤ) → cells ≡ cell_array w v node → fx ≡ work_array w X node → fy ≡ work_array w Y node → fz ≡ work_array w Z node →
+      P (flows_in n e cells fx fy fz) → P (flows_at n e w v node)
+  in_flows P cells fx fy fz is_cells is_x is_y is_z p =
+      let ys = work_array w Y node in
+      let xs = work_array w X node in
+      subst (λ u. P (flows_in n e u xs ys (work_array w Z node))) is_cells
+      (subst (λ u. P (flows_in n e cells u ys (work_array w Z node))) is_x
+      (subst (λ u. P (flows_in n e cells fx u (work_array w Z node))) is_y
+      (subst (λ u. P (flows_in n e cells fx fy u)) is_z p)))
 
-  -- cells after others
-  pub step_after : (xs ys : List CellAt) (r : Result (Unit {0}) Above) (a b c : List ℤ) → Steps s contents speeds xs (Ok tt) a b → Steps s contents speeds ys r b c → Steps s contents speeds (xs ++ ys) r a c
-  step_after xs ys r a b c first second = record {
-    size = second.size ∙ first.size;
-    kept = λ d cell holds. second.kept d cell (first.kept d cell holds);
-    made = made_by r second;
-    found = found_after xs ys r first.found second.found;
+-- ---- what a step makes of a leaf
+
+module _ (n e : ℕ) (w : WorldState) (v node : ℕ) (content : CellAt → ℤ) (speeds : Speeds) (valid : Valid w.told.grid) (sized : IsSized n e w.told.grid.shape)
+    (leaf : IsLeafNode w.told.grid node) (are : AreFluxed w v content speeds) where
+  abbrev grid : Grid
+  grid = w.told.grid
+
+  abbrev block : BlockAt
+  block = block_at w.told.grid node
+
+  flows_held : HoldsFlows grid content speeds block (cell_array w v node) (work_array w X node) (work_array w Y node) (work_array w Z node)
+  flows_held = record {
+    leaf = leaf.leaf;
+    views = are.cells node leaf;
+    along_x = are.faces node X leaf;
+    along_y = are.faces node Y leaf;
+    along_z = are.faces node Z leaf;
   }
-    where
-      made_by : (r : Result (Unit {0}) Above) → Steps s contents speeds ys r b c → OnOk r ((d : CellAt) → IsCell s d → IsAmong d (xs ++ ys) → Holds s contents speeds c d)
-      made_by (Ok done) second = λ d cell among. elim (among_either d xs ys among) [
-        | inl l ↦ second.kept d cell (first.made d cell l)
-        | inr r ↦ second.made d cell r
-      ]
-      made_by (Err above) second = tt
 
-  -- a step that stopped is one of all cells
-  pub step_stopped : (xs ys whole : List CellAt) (above : Above) (a b : List ℤ) → whole ≡ xs ++ ys → Steps s contents speeds xs (Err above) a b → Steps s contents speeds whole (Err above) a b
-  step_stopped xs ys whole above a b e first = record {
-    size = first.size;
-    kept = first.kept;
-    made = tt;
-    found = subst (λ cells. FindsExcess s contents speeds cells (Err above)) (sym e) (found_first xs ys above.cell first.found.0, first.found.1);
-  }
+  pub leaf_made : (old new : List ℤ) → IsApplied n e (flows_at n e w v node) old new → HoldsContents grid (advected grid content speeds) block (cells_of grid new)
+  leaf_made old new applied =
+      let is = in_shape (λ m d. IsApplied m d (flows_at m d w v node) old new) n e grid.shape sized applied in
+      record {
+        at = λ i j k hi hj hk.
+            is.written i j k hi hj hk
+            ∙ left_advected grid content speeds block (cell_array w v node) (work_array w X node) (work_array w Y node) (work_array w Z node) valid flows_held i j k hi hj hk;
+      }
 
-  -- the cells of one more place
-  pub one_more : (f : ℕ → List CellAt) (j : ℕ) (a b c : List ℤ) → Steps s contents speeds (flat_map f (range_with_len 0 j)) (Ok tt) a b → Steps s contents speeds (f j) (Ok tt) b c → Steps s contents speeds (flat_map f (range_with_len 0 (j + 1))) (Ok tt) a c
-  one_more f j a b c before here = subst (λ cells. Steps s contents speeds cells (Ok tt) a c) (sym (flat_next f j)) (step_after (flat_map f (range_with_len 0 j)) (f j) (Ok tt) a b c before here)
+  pub leaf_lost : (sides : List Bool) (flown : ℤ) → AreOuterSides grid.shape block sides → flown ≡ out_through n (flows_at n e w v node) sides → IsLost w content speeds node flown
+  leaf_lost sides flown outer is =
+      let here : flown ≡ out_through grid.shape.n (flows_at grid.shape.n grid.shape.g w v node) sides =
+      in_shape (λ m d. flown ≡ out_through m (flows_at m d w v node) sides) n e grid.shape sized is in
+      here
+      ∙ all_lost grid block sides valid leaf.leaf outer content speeds (cell_array w v node) (work_array w X node) (work_array w Y node) (work_array w Z node) flows_held
+      ∙ sym (ap (λ t. if t then block_sum grid.shape.n (lost grid content speeds) block else pos 0) leaf.leaf)
 
-  -- the step stopped at a place
-  pub stopped_at : (f : ℕ → List CellAt) (j n : ℕ) (above : Above) (a b c : List ℤ) → j < n → Steps s contents speeds (flat_map f (range_with_len 0 j)) (Ok tt) a b → Steps s contents speeds (f j) (Err above) b c → Steps s contents speeds (flat_map f (range_with_len 0 n)) (Err above) a c
-  stopped_at f j n above a b c h before here =
-      let after = flat_after f j n h in
-      step_stopped (flat_map f (range_with_len 0 j) ++ f j) after.0 (flat_map f (range_with_len 0 n)) above a c after.1 (step_after (flat_map f (range_with_len 0 j)) (f j) (Err above) a b c before here)
+  pub leaf_none : AreInRange n (left_at (flows_at n e w v node)) → node_above grid content speeds node ≡ None
+  leaf_none within =
+      let here = in_shape (λ m d. AreInRange m (left_at (flows_at m d w v node))) n e grid.shape sized within in
+      ap (λ t. if t then first_above grid content speeds block else None) leaf.leaf
+      ∙ none_refused grid content speeds block (cell_array w v node) (work_array w X node) (work_array w Y node) (work_array w Z node) valid flows_held here
 
-  -- all places were gone through
-  pub all_done : (f : ℕ → List CellAt) (j n : ℕ) (a b : List ℤ) → j ≡ n → Steps s contents speeds (flat_map f (range_with_len 0 j)) (Ok tt) a b → Steps s contents speeds (flat_map f (range_with_len 0 n)) (Ok tt) a b
-  all_done f j n a b e steps = subst (λ m. Steps s contents speeds (flat_map f (range_with_len 0 m)) (Ok tt) a b) e steps
+  pub leaf_refused : (at : RangeAt) (above : Above) → first_out n (left_at (flows_at n e w v node)) ≡ Some at → above ≡ record { cell = in_block n block at.i at.j at.k; value = at.value } →
+      IsRefused grid content speeds (node_above grid content speeds node) above
+  leaf_refused at above is made =
+      let here = in_shape (λ m d. first_out m (left_at (flows_at m d w v node)) ≡ Some at) n e grid.shape sized is in
+      let first = refused_first grid content speeds block (cell_array w v node) (work_array w X node) (work_array w Y node) (work_array w Z node) valid flows_held at here in
+      let told : above ≡ record { cell = in_block grid.shape.n block at.i at.j at.k; value = at.value } =
+      subst (λ m. above ≡ record { cell = in_block m block at.i at.j at.k; value = at.value }) (sym sized.cells) made in
+      subst (IsRefused grid content speeds (node_above grid content speeds node)) (sym told) (record {
+        first_is = ap (λ t. if t then first_above grid content speeds block else None) leaf.leaf ∙ first.0;
+        value_is = first.1;
+      })
+
+-- the place that is refused lies in the block
+pub refused_inside : (n : ℕ) (left : ℕ → ℕ → ℕ → ℤ) (at : RangeAt) → first_out n left ≡ Some at → (at.i < n) × (at.j < n) × (at.k < n)
+refused_inside n left at is = inside (first_in_block left n) refl
+  where
+    inside : (found : Option stores.Above) → first_in_block left n ≡ found → (at.i < n) × (at.j < n) × (at.k < n)
+    inside None none = absurd (
+        let here = sym is ∙ first_told n left left (first_in_block left n) refl (λ i j k hi hj hk. refl) ∙ ap (option_map told) none in
+        cc)
+    inside (Some a) some =
+        let same : at ≡ told a = (let here = sym is ∙ first_told n left left (first_in_block left n) refl (λ i j k hi hj hk. refl) ∙ ap (option_map told) some in cc) in
+        subst (λ (r : RangeAt). (r.i < n) × (r.j < n) × (r.k < n)) (sym same) (inside_of left n a some)
+
+-- ---- how much flows out of a leaf
+
+face_small : (most n g : ℕ) (a : Axis) (faces : ℕ → ℕ → ℕ → ℤ) → AreFacesWithin most n g a faces → (p s t : ℕ) → p ≤ n → s < n → t < n → Within most (face_on a (inner g faces) p s t)
+face_small most n g X faces within p s t hp hs ht = within.at p s t (omega arith) hs ht
+face_small most n g Y faces within p s t hp hs ht = within.at s p t hs (omega arith) ht
+face_small most n g Z faces within p s t hp hs ht = within.at s t p hs ht (omega arith)
+
+side_small : (most n g : ℕ) (a : Axis) (faces : ℕ → ℕ → ℕ → ℤ) → AreFacesWithin most n g a faces → (p : ℕ) → p ≤ n → Within (n * (n * most)) (side_sum n a (inner g faces) p)
+side_small most n g a faces within p hp =
+    sum_within n (n * most) _ (λ t ht. sum_within n most _ (λ s hs. face_small most n g a faces within p s t hp hs ht))
+
+chosen_small : (most : ℕ) (t : Bool) (z : ℤ) → Within most z → Within most (if t then z else pos 0)
+chosen_small most true z within = within
+chosen_small most false z within = omega arith
+
+along_small : (most n g : ℕ) (a : Axis) (faces : ℕ → ℕ → ℕ → ℤ) (low high : Bool) → AreFacesWithin most n g a faces →
+    Within (n * (n * most) + n * (n * most)) (out_along n a (inner g faces) low high)
+along_small most n g a faces low high within =
+    within_less (n * (n * most)) (n * (n * most)) (if high then side_sum n a (inner g faces) n else pos 0) (if low then side_sum n a (inner g faces) 0 else pos 0)
+    (chosen_small (n * (n * most)) high (side_sum n a (inner g faces) n) (side_small most n g a faces within n (omega arith)))
+    (chosen_small (n * (n * most)) low (side_sum n a (inner g faces) 0) (side_small most n g a faces within 0 (omega arith)))
+
+pub out_small : (n e : ℕ) (w : WorldState) (v node : ℕ) (sides : List Bool) → IsSize n e → MaySettle n e w v → IsLeafNode w.told.grid node →
+    Within (2 ^ 70) (out_through n (flows_at n e w v node) sides)
+out_small n e w v node sides size may leaf =
+    let side = n * (n * 2 ^ 58) in
+    let few : side ≤ 2 ^ 64 = elim size.cells [
+      | inl is ↦ subst (λ m. m * (m * 2 ^ 58) ≤ 2 ^ 64) (sym is) (omega arith)
+      | inr is ↦ subst (λ m. m * (m * 2 ^ 58) ≤ 2 ^ 64) (sym is) (omega arith)
+    ] in
+    let f = flows_at n e w v node in
+    let x_out = out_along n X f.x (is_chosen sides 0) (is_chosen sides 1) in
+    let y_out = out_along n Y f.y (is_chosen sides 2) (is_chosen sides 3) in
+    let z_out = out_along n Z f.z (is_chosen sides 4) (is_chosen sides 5) in
+    let x = along_small (2 ^ 58) n e X (number_at (face_extents n e X) (work_array w X node)) (is_chosen sides 0) (is_chosen sides 1) (faces_of n e w v node X may leaf) in
+    let y = along_small (2 ^ 58) n e Y (number_at (face_extents n e Y) (work_array w Y node)) (is_chosen sides 2) (is_chosen sides 3) (faces_of n e w v node Y may leaf) in
+    let z = along_small (2 ^ 58) n e Z (number_at (face_extents n e Z) (work_array w Z node)) (is_chosen sides 4) (is_chosen sides 5) (faces_of n e w v node Z may leaf) in
+    let all : Within ((side + side) + (side + side) + (side + side)) (out_through n f sides) =
+    within_add ((side + side) + (side + side)) (side + side) (x_out +ℤ y_out) z_out (within_add (side + side) (side + side) x_out y_out x y) z in
+    omega (arith, all, few)

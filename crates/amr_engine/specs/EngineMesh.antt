@@ -1,20 +1,32 @@
--- The plain mesh by a grid, lists of contents on level 0 and marks.
-use Rattle.std.specs.Prelude.{List, [], Bool, ℤ, pos, slice_index_or}
-use Rattle.amr_num.specs.declared.BlockAt.{BlockAt}
-use Rattle.mesh_model.specs.declared.language.script.Declared.{Declared}
-use Rattle.mesh_model.specs.Tree.Kinds.{Grid}
-use Rattle.mesh_model.specs.Fields.Plain.{Mesh, on_cells}
-use Rattle.amr_engine.specs.Contents.{content_in}
+-- The plain mesh by names, a world, what has flowed out, and marks.
+use Rattle.std.specs.Prelude.{◌≡◌, nat_lt, if◌then◌else◌, List, length, ℤ, pos, None, slice_index_or}
+use Rattle.block_tree.specs.Marked.{derefine_of, refine_of, room}
+use Rattle.block_tree.specs.declared.marks.Marks.{Marks}
+use Rattle.mesh_model.specs.Geometry.Limits.{most_nodes}
+use Rattle.mesh_model.specs.Fields.VariableNames.{VariableNames}
+use Rattle.mesh_model.specs.Fields.Plain.{Mesh}
+use Rattle.mesh_model.specs.Fields.Ranks.{WorldState}
+use Rattle.rank_world.specs.Contents.{contents_of}
 
--- a mesh with this grid and these marks, with these contents and with what has flowed out of each variable
-unfoldable pub engine_mesh : Declared → Grid → List (List ℤ) → List ℤ → (BlockAt → Bool) → (BlockAt → Bool) → Mesh
-engine_mesh d g contents outs refine derefine = record {
-  grid = g;
-  names = d.names;
-  cells = λ v. on_cells g (content_in d.shape (slice_index_or contents v []));
+-- the mesh with these names, whose tree and contents are a world's, with what has flowed out of each variable and with the marks
+unfoldable pub mesh_of : VariableNames → WorldState → List ℤ → Marks → Mesh
+mesh_of names w outs marks = record {
+  grid = w.told.grid;
+  names = names;
+  cells = λ v c. if nat_lt v (length names.cells) then contents_of w v c else pos 0;
   outs = λ v. slice_index_or outs v (pos 0);
   faces = λ f. pos 0;
   edges = λ e. pos 0;
-  refine = refine;
-  derefine = derefine;
+  refine = refine_of w.told.grid marks;
+  derefine = derefine_of w.told.grid marks;
 }
+
+-- a world has arrays for the variables that are declared, which are cell variables, and there is room for marks on every tree
+pub record IsLaidOut (names : VariableNames) (w : WorldState) (outs : List ℤ) (marks : Marks) : Type 0 where
+  pub cells : w.told.counts.cells ≡ length names.cells
+  pub faces : w.told.counts.faces ≡ 0
+  pub edges : w.told.counts.edges ≡ 0
+  pub face : names.face ≡ None
+  pub edge : names.edge ≡ None
+  pub flowed : length outs ≡ length names.cells
+  pub room : room marks ≡ most_nodes w.told.grid.shape

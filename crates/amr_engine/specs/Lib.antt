@@ -1,9 +1,12 @@
-pub mod Contents
-pub mod Values
-pub mod UniformMesh
+pub mod Blocks
+pub mod Regions
+pub mod Filling
+pub mod Totals
+pub mod MarkedWhere
 pub mod EngineMesh
 pub mod Plain
 pub mod Stopping
-pub mod Growth
-pub mod Stepping
 pub mod Built
+pub mod Flowing
+pub mod Settling
+pub mod Stepping

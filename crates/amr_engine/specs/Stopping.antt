@@ -1,7 +1,7 @@
 -- What a command does, or why it stops.
 use Rattle.std.specs.Prelude.{◌≡◌, ℕ, List, Option, Some, None, Result, Ok, Err, ℤ}
-use Rattle.amr_engine.specs.declared.advection.Hindrance.{Hindrance}
-use Rattle.amr_engine.specs.declared.advection.Hindrance.TheVariants.{TooFast, Content, FlowedOut}
+use Rattle.amr_engine.specs.declared.hindrance.Hindrance.{Hindrance}
+use Rattle.amr_engine.specs.declared.hindrance.Hindrance.TheVariants.{TooFast, Content, FlowedOut}
 use Rattle.amr_engine.specs.declared.cause.Cause.{Cause}
 use Rattle.amr_engine.specs.declared.cause.Cause.TheVariants.{Range, Courant, Level, Place, PlaceBlock, Blocks, WriteFault, OutOfMemory}
 use Rattle.amr_engine.specs.declared.cause.StoppedBy.{StoppedBy}
@@ -13,6 +13,8 @@ use Rattle.mesh_model.specs.declared.fields.spot.Spot.TheVariants as spots
 use Rattle.mesh_model.specs.Fields.Plain.{Mesh}
 use Rattle.mesh_model.specs.Run.Runs.{TheMemory, TheSink, mesh_after, needs, text_of}
 use Rattle.mesh_model.specs.Run.Stops.{refusal}
+use Rattle.regrid_move.specs.declared.regridding.RegridStop.{RegridStop}
+use Rattle.regrid_move.specs.declared.regridding.RegridStop.TheVariants as regrids
 use Rattle.outside_io.specs.Moved.{Rose, Takes, TakesPrefix}
 
 -- what stopped a command, as its cause tells it: here alone causes are told apart
@@ -80,3 +82,9 @@ abbrev pub cause_told : ℕ → List ℤ → Hindrance → Cause
 cause_told var speeds TooFast = Courant speeds
 cause_told var speeds (Content above) = Range (record { var = Cell var; spot = spots.Cell above.cell; value = above.value })
 cause_told var speeds (FlowedOut out) = Range (record { var = Cell var; spot = spots.Out; value = out })
+
+-- the cause that tells why a regrid stops
+abbrev pub cause_of_regrid : RegridStop → Cause
+cause_of_regrid (regrids.Blocks count) = Blocks count
+cause_of_regrid (regrids.Range stop) = Range stop
+cause_of_regrid regrids.OutOfMemory = OutOfMemory

@@ -7,20 +7,23 @@ ghost use Rattle.std.specs.Prelude.{◌≡◌};
 
 use mesh_model::language::script::{Command, Declared, Line, Script};
 
-/// Whether the command is built under these declarations.
-fn is_built_command(declared: &Declared, command: Command) -> bool
-    ensures { result ≡ plain.is_built_command declared.now command }
+/// Whether the command is built.
+fn is_built_command(command: Command) -> bool
+    ensures { result ≡ plain.is_built_command command }
 {
     match command {
         Command::MarkRefine { .. } => true,
         Command::MarkDerefine { .. } => true,
-        Command::Regrid => declared.names.cells() == 0,
+        Command::RefineWhere { .. } => true,
+        Command::DerefineWhere { .. } => true,
+        Command::Regrid => true,
+        Command::Advect { .. } => true,
         Command::PrintSize => true,
         Command::PrintMesh => true,
         Command::PrintTree => true,
         Command::FillAll { .. } => true,
         Command::FillBox { .. } => true,
-        Command::Advect { .. } => true,
+        Command::PrintGuards { .. } => true,
         Command::PrintVar { .. } => true,
         Command::Total { .. } => true,
         _ => false,
@@ -35,13 +38,11 @@ fn is_built_mesh(declared: &Declared) -> bool
     declared.names.face().is_none() && declared.names.edge().is_none()
 }
 
-/// Whether all commands of the lines are built under these declarations.
-fn are_built(declared: &Declared, lines: &[Line]) -> bool
-    ensures { result ≡ list_all (λ line. plain.is_built_command declared.now line.command) lines.now }
+/// Whether all commands of the lines are built.
+fn are_built(lines: &[Line]) -> bool
+    ensures { result ≡ list_all (λ line. plain.is_built_command line.command) lines.now }
 {
-    lines
-        .iter()
-        .all(|line| is_built_command(declared, line.command))
+    lines.iter().all(|line| is_built_command(line.command))
 }
 
 /// Whether all that the script asks for is built, for so many ranks and workers. What is not built is
@@ -50,8 +51,5 @@ fn are_built(declared: &Declared, lines: &[Line]) -> bool
 pub fn built(script: &Script, ranks: u32, workers: u32) -> bool
     ensures { result ≡ plain.is_built (plain_script script.now) ranks workers }
 {
-    is_built_mesh(&script.declared)
-        && ranks <= 1
-        && workers <= 1
-        && are_built(&script.declared, &script.lines)
+    is_built_mesh(&script.declared) && ranks <= 1 && workers <= 1 && are_built(&script.lines)
 }

@@ -1,9 +1,10 @@
 //! Why a command stopped.
 
-use crate::advection::Hindrance;
+use crate::hindrance::Hindrance;
 use amr_num::BlockAt;
 use mesh_model::run::stops::{LevelStop, Refusal};
 use mesh_model::{Group, RangeStop, Spot};
+use regrid_move::RegridStop;
 
 /// Why a command stopped.
 #[derive(Clone, Copy, Debug, PartialEq, Eq)]
@@ -62,6 +63,17 @@ impl Cause {
             Cause::Blocks(count) => StoppedBy::Mesh(Refusal::Blocks(count)),
             Cause::WriteFault => StoppedBy::Sink,
             Cause::OutOfMemory => StoppedBy::Memory,
+        }
+    }
+
+    /// Why a regrid stops.
+    pub(crate) fn of_regrid(stop: RegridStop) -> Cause
+        ensures { result ≡ plain.cause_of_regrid stop }
+    {
+        match stop {
+            RegridStop::Blocks(count) => Cause::Blocks(count),
+            RegridStop::Range(stop) => Cause::Range(stop),
+            RegridStop::OutOfMemory => Cause::OutOfMemory,
         }
     }
 

@@ -1,45 +1,46 @@
 //! The mesh of a run, and each command on it.
 
-use crate::advection::try_step;
+use crate::advection::step;
 use crate::cause::{Cause, Stop};
-use crate::contents::{fill_all, fill_box, total, zero_list, zero_outs, zeros};
-use crate::hierarchy::Hierarchy;
-use crate::values::CellValues;
+use crate::filling::fill_leaves;
+use crate::marking::{Where, mark_where};
+use crate::region::{CellBox, Fill, Region};
+use crate::totals::total;
 use amr_num::{BlockAt, OutOfMemory};
-use amr_report::{print_mesh, print_size, print_total, print_tree, print_var};
+use amr_report::{print_guards, print_mesh, print_size, print_total, print_tree, print_var};
+use block_store::Layout;
+use block_tree::Marks;
+use guard_fill::{fill, restrict_all};
 use mesh_model::Group;
 use mesh_model::language::names::Names;
 use mesh_model::language::script::{Command, Declared, Line};
 use outside_io::Failed;
 use outside_io::disk::Disk;
 use outside_io::sink::Sink;
+use rank_world::World;
+use refine_marks::{SetMarks, close};
+use regrid_move::regrid;
 use std::alloc::Global;
 
-/// A mesh on which the commands of a script are done: its tree with the marks, and for each cell variable one list of
-/// contents on level 0, by coordinate, and what has flowed out of it. A mesh with variables stays on level 0.
+/// A mesh on which the commands of a script are done: its world, which has the tree and the numbers in blocks of `N`
+/// cells along each axis with `G` guard cells on each side, the marks on its leaves, and what has flowed out of each
+/// cell variable.
 #[derive(Drop)]
-pub struct Engine {
+pub struct Engine<const N: usize, const G: usize> {
     alloc: Global,
-    declared: Declared,
-    hierarchy: Hierarchy,
-    contents: Vec<Vec<i64>>,
+    names: Names,
+    world: World<N, G>,
+    marks: Marks,
     outs: Vec<i128>,
-    /// Room for what a step makes of a list of contents.
-    next: Vec<i64>,
-    ghost uniform: { IsUniform declared (map (λ list. list.items) contents.items) outs.items },
-    ghost limits: { KeepsLimits declared },
-    ghost range: { InRange (uniform_mesh declared (map (λ list. list.items) contents.items) outs.items) },
-    ghost room: { length next.items ≡ cell_count declared.shape },
-    ghost shaped: { (grid_of hierarchy.tree).shape ≡ declared.shape },
-    ghost at_roots: { 0 < length declared.names.cells → grid_of hierarchy.tree ≡ start_grid declared.shape },
+    ghost fit: { IsFit N G world },
+    ghost laid_out: { IsLaidOut names world outs.items marks },
+    ghost valid: { ∥ ValidMesh (mesh_of names world outs.items marks) ∥₁ },
 }
 
-ghost use Rattle.amr_engine.specs.Contents.{IsUniform, KeepsLimits, cell_count};
-ghost use Rattle.amr_engine.specs.UniformMesh.{uniform_mesh};
-ghost use Rattle.block_tree.specs.GridOf.{grid_of};
-ghost use Rattle.mesh_model.specs.Tree.Start.{start_grid};
-ghost use Rattle.mesh_model.specs.Fields.Valid.{InRange, ValidMesh};
-ghost use Rattle.std.specs.Prelude.{◌≡◌, ◌<◌, ◌^◌, MatchResult, Ok, Err, length, map};
+ghost use Rattle.amr_engine.specs.EngineMesh.{IsLaidOut, mesh_of};
+ghost use Rattle.mesh_model.specs.Fields.Ranks.{IsFit};
+ghost use Rattle.mesh_model.specs.Fields.Valid.{ValidMesh};
+ghost use Rattle.std.specs.Prelude.{◌≡◌, IfOk, MatchResult, Ok, Err, pos, replicate};
 
 /// A call that prints stops a command where the sink fails.
 fn written(printed: Result<(), Failed>) -> Result<(), Cause>
@@ -51,43 +52,60 @@ fn written(printed: Result<(), Failed>) -> Result<(), Cause>
     }
 }
 
-impl Engine {
+/// What has flowed out of each variable at the start, which is nothing.
+fn zero_outs(alloc: Global, variables: u32) -> Result<Vec<i128>, OutOfMemory>
+    ensures { IfOk result (λ list. list.items ≡ replicate variables (pos 0)) }
+{
+    match vec![in alloc; 0i128; variables as usize] {
+        Ok(list) => Ok(list),
+        Err(_) => Err(OutOfMemory),
+    }
+}
+
+impl<const N: usize, const G: usize> Engine<N, G> {
     ghost use Rattle.amr_engine.specs.Built.{IsBuiltLine, is_built_command};
-    ghost use Rattle.amr_engine.specs.Contents.{IsRoots};
-    ghost use Rattle.amr_engine.specs.Plain.{declared_of, plain, values_of};
-    ghost use Rattle.amr_report.specs.Printing.{Prints};
+    ghost use Rattle.amr_engine.specs.Plain.{declared_of, plain};
+    ghost use Rattle.amr_engine.specs.Regions.{IsRegionOf, filled};
+    ghost use Rattle.amr_engine.specs.MarkedWhere.{marked_where, number_of};
     ghost use Rattle.amr_engine.specs.Stopping.{Acts, Changes, IsCause};
-    ghost use Rattle.mesh_model.specs.Language.Commands.{AreThree, IsBox, IsCellVariable, IsCommandOf, IsGroup, IsLeafNumber, IsLineOf};
-    ghost use Rattle.mesh_model.specs.Fields.Fill.{fill_all as plain_fill_all, fill_box as plain_fill_box};
+    ghost use Rattle.amr_report.specs.Printing.{Prints};
+    ghost use Rattle.mesh_model.specs.Language.Commands.{AreThree, IsCellVariable, IsCommandOf, IsGroup, IsLeafNumber, IsLineOf, IsPlace};
     ghost use Rattle.mesh_model.specs.Geometry.Limits.{IsShape};
+    ghost use Rattle.mesh_model.specs.Fields.Ranks.{IsSized};
+    ghost use Rattle.guard_fill.specs.Filling.{LeavesGuarded};
+    ghost use Rattle.rank_world.specs.Holding.{IsOfMesh};
     ghost use Rattle.mesh_model.specs.Run.Runs.{KeepsOuts, KeepsTotals, StaysPositive, mesh_after, text_of};
     ghost use Rattle.mesh_model.specs.Fields.Start.{start_mesh};
     ghost use Rattle.mesh_model.specs.Run.Stops.{refusal};
     ghost use Rattle.mesh_model.specs.Run.Texts.{total_text, variable_text};
     ghost use Rattle.outside_io.specs.Moved.{Takes};
-    ghost use Rattle.std.specs.Prelude.{◌≤◌, true, IfErr, IfOk, None, OnErr, OnOk};
+    ghost use Rattle.std.specs.Prelude.{◌≤◌, ◌^◌, true, IfErr, IfOk, None, OnErr, OnOk, length};
 
-    /// The start mesh of what was declared: all contents 0.
-    pub fn new(alloc: Global, declared: Declared) -> Result<Engine, OutOfMemory>
-        requires roots { IsRoots declared.shape }
+    /// The start mesh of what was declared: all contents 0. `N` and `G` are the shape's.
+    pub fn new(alloc: Global, declared: Declared) -> Result<Engine<N, G>, OutOfMemory>
         requires shape { IsShape declared.shape }
+        requires sizes { IsSized N G declared.shape }
         requires groups { (declared.names.face ≡ None) × (declared.names.edge ≡ None) }
         requires few { length declared.names.cells ≤ 4 }
         ensures mesh { IfOk result (λ engine. plain engine ≡ start_mesh declared.shape declared.names) }
         ensures declared { IfOk result (λ engine. declared_of engine ≡ declared) }
     {
-        let variables = declared.names.cells();
-        let contents = zeros(alloc, &declared.shape, variables)?;
+        let Declared { shape, names } = declared;
+        let variables = names.cells();
+        let layout = Layout {
+            cells: variables,
+            faces: 0,
+            edges: 0,
+        };
+        let world = World::new(alloc, shape, layout)?;
+        let marks = Marks::empty(alloc, world.tree())?;
         let outs = zero_outs(alloc, variables)?;
-        let next = zero_list(alloc, &declared.shape)?;
-        let hierarchy = Hierarchy::new(alloc, declared.shape)?;
         Ok(Engine {
             alloc,
-            declared,
-            hierarchy,
-            contents,
+            names,
+            world,
+            marks,
             outs,
-            next,
         })
     }
 
@@ -95,7 +113,15 @@ impl Engine {
     pub fn names(&self) -> &Names
         ensures { result.now ≡ (declared_of self.now).names }
     {
-        &self.declared.names
+        &self.names
+    }
+
+    /// The tree with the numbers in its blocks.
+    pub fn world(&self) -> &World<N, G>
+        ensures tree { result.now.told.grid ≡ (plain self.now).grid }
+        ensures contents { IsOfMesh result.now (plain self.now) }
+    {
+        &self.world
     }
 
     /// Does the command of a line: changes the mesh, or prints.
@@ -106,7 +132,7 @@ impl Engine {
         disk: &mut D,
     ) -> Result<(), Stop>
         requires fits { IsLineOf (declared_of self.old) line.now }
-        requires built { IsBuiltLine (declared_of self.old) line.now }
+        requires built { IsBuiltLine line.now }
         ensures mesh { OnOk result (plain self.new ≡ mesh_after (plain self.old) line.now.command) }
         ensures text { OnOk result (Takes (K.taken sink.old) (text_of (plain self.old) line.now.command) (K.taken sink.new)) }
         ensures calm { OnOk result (K.faults sink.new ≡ K.faults sink.old) }
@@ -140,13 +166,14 @@ impl Engine {
     /// Does a command.
     fn act<K: Sink>(&mut self, command: Command, sink: &mut K) -> Result<(), Cause>
         requires fits { IsCommandOf (declared_of self.old) command }
-        requires built { is_built_command (declared_of self.old) command ≡ true }
+        requires built { is_built_command command ≡ true }
         ensures acts { Acts result (plain self.old) command (plain self.new) (record { before = K.taken sink.old; after = K.taken sink.new; faults = K.faults sink.old; new_faults = K.faults sink.new }) }
         ensures declared { declared_of self.new ≡ declared_of self.old }
     {
         match command {
             Command::FillAll { var, value } => {
-                self.fill_all(var, value);
+                let region = Region::Everywhere;
+                self.fill(var, Fill { region, value });
                 Ok(())
             }
             Command::FillBox {
@@ -156,68 +183,113 @@ impl Engine {
                 high,
                 value,
             } => {
-                self.fill_box(var, level, low, high, value);
+                let region = Region::Within(CellBox { level, low, high });
+                self.fill(var, Fill { region, value });
                 Ok(())
             }
             Command::MarkRefine { at } => self.mark_refine(at),
             Command::MarkDerefine { at } => self.mark_derefine(at),
+            Command::RefineWhere { var, above } => {
+                self.mark_where(var, Where::RefineAbove(above));
+                Ok(())
+            }
+            Command::DerefineWhere { var, below } => {
+                self.mark_where(var, Where::DerefineBelow(below));
+                Ok(())
+            }
             Command::Regrid => self.regrid(),
             Command::Advect { var, speeds } => self.advect(var, speeds),
-            Command::PrintSize => written(print_size(sink, self.hierarchy.tree())),
-            Command::PrintMesh => written(print_mesh(sink, self.hierarchy.tree())),
-            Command::PrintTree => written(print_tree(sink, self.hierarchy.tree())),
+            Command::PrintSize => written(print_size(sink, self.world.tree())),
+            Command::PrintMesh => written(print_mesh(sink, self.world.tree())),
+            Command::PrintTree => written(print_tree(sink, self.world.tree())),
+            Command::PrintGuards { group, at } => self.print_guards(group, at, sink),
             Command::PrintVar { group } => written(self.print_variable(group, sink)),
             Command::Total { var } => written(self.print_total(var, sink)),
             _ => unreachable!(),
         }
     }
 
+    /// Every leaf cell of the variable that the fill covers takes its value.
+    fn fill(&mut self, var: u32, fill: Fill)
+        requires variable { IsCellVariable (declared_of self.old).names var }
+        requires region { IsRegionOf (declared_of self.old).shape fill.region }
+        requires value { IsLeafNumber fill.value }
+        ensures mesh { plain self.new ≡ filled (plain self.old) var fill }
+        ensures declared { declared_of self.new ≡ declared_of self.old }
+    {
+        fill_leaves(&mut self.world, var, fill);
+    }
+
     /// Marks a leaf to be refined.
     fn mark_refine(&mut self, at: BlockAt) -> Result<(), Cause>
+        requires place { IsPlace at }
         ensures changes { Changes result (plain self.old) (Command.MarkRefine at) (plain self.new) }
         ensures declared { declared_of self.new ≡ declared_of self.old }
     {
-        self.hierarchy.mark_refine(at)
+        let node = match self.world.tree().leaf_at(at) {
+            Some(node) => node,
+            None => return Err(Cause::PlaceBlock(at)),
+        };
+        match self.marks.set_refine(self.world.tree(), node) {
+            Ok(()) => Ok(()),
+            Err(stop) => Err(Cause::Level(stop)),
+        }
     }
 
     /// Marks a leaf to be merged with its siblings.
     fn mark_derefine(&mut self, at: BlockAt) -> Result<(), Cause>
+        requires place { IsPlace at }
         ensures changes { Changes result (plain self.old) (Command.MarkDerefine at) (plain self.new) }
         ensures declared { declared_of self.new ≡ declared_of self.old }
     {
-        self.hierarchy.mark_derefine(at)
+        let node = match self.world.tree().leaf_at(at) {
+            Some(node) => node,
+            None => return Err(Cause::PlaceBlock(at)),
+        };
+        match self.marks.set_derefine(self.world.tree(), node) {
+            Ok(()) => Ok(()),
+            Err(stop) => Err(Cause::Level(stop)),
+        }
     }
 
-    /// Refines and merges as the marks and the level rule ask, and takes the marks away, in a mesh without variables.
+    /// Marks every leaf whose contents of the variable ask for it.
+    fn mark_where(&mut self, var: u32, rule: Where)
+        requires variable { IsCellVariable (declared_of self.old).names var }
+        requires number { IsLeafNumber (number_of rule) }
+        ensures mesh { plain self.new ≡ marked_where (plain self.old) var rule }
+        ensures declared { declared_of self.new ≡ declared_of self.old }
+    {
+        mark_where(&self.world, &mut self.marks, var, rule);
+    }
+
+    /// Refines and merges as the marks and the level rule ask, and takes the marks away.
     fn regrid(&mut self) -> Result<(), Cause>
-        requires bare { length (declared_of self.old).names.cells ≡ 0 }
         ensures changes { Changes result (plain self.old) Command.Regrid (plain self.new) }
         ensures declared { declared_of self.new ≡ declared_of self.old }
     {
-        self.hierarchy.regrid(self.alloc)
+        let plan = match close(self.alloc, self.world.tree(), &self.marks) {
+            Ok(plan) => plan,
+            Err(OutOfMemory) => return Err(Cause::OutOfMemory),
+        };
+        match regrid(self.alloc, &mut self.world, &plan) {
+            Ok(()) => {
+                self.marks.reset(self.world.tree());
+                Ok(())
+            }
+            Err(stop) => Err(Cause::of_regrid(stop)),
+        }
     }
 
     /// Makes one step of the variable.
     fn advect(&mut self, var: u32, speeds: [i64; 3]) -> Result<(), Cause>
         requires variable { IsCellVariable (declared_of self.old).names var }
         requires speeds { AreThree (2 ^ 20) speeds }
-        ensures changes { Changes result (values_of self.old) (Command.Advect var speeds) (values_of self.new) }
+        ensures changes { Changes result (plain self.old) (Command.Advect var speeds) (plain self.new) }
         ensures declared { declared_of self.new ≡ declared_of self.old }
-        ensures hierarchy { self.new.hierarchy ≡ self.old.hierarchy }
     {
-        let shape = &self.declared.shape;
-        let contents = &self.contents[var as usize];
         let out = self.outs[var as usize];
-        match try_step(
-            shape,
-            self.hierarchy.tree(),
-            contents,
-            out,
-            speeds,
-            &mut self.next,
-        ) {
+        match step(&mut self.world, var, speeds, out) {
             Ok(out) => {
-                self.contents[var as usize].copy_from_slice(&self.next);
                 self.outs[var as usize] = out;
                 Ok(())
             }
@@ -225,65 +297,71 @@ impl Engine {
         }
     }
 
-    /// Every leaf cell of the variable takes the value.
-    fn fill_all(&mut self, var: u32, value: i64)
-        requires variable { IsCellVariable (declared_of self.old).names var }
-        requires value { IsLeafNumber value }
-        ensures mesh { values_of self.new ≡ plain_fill_all (values_of self.old) var value }
-        ensures declared { declared_of self.new ≡ declared_of self.old }
-        ensures hierarchy { self.new.hierarchy ≡ self.old.hierarchy }
-    {
-        let contents = &mut self.contents[var as usize];
-        fill_all(contents, value);
-    }
-
-    /// Every leaf cell whose whole region lies in the box takes the value.
-    fn fill_box(&mut self, var: u32, level: u32, low: [u32; 3], high: [u32; 3], value: i64)
-        requires variable { IsCellVariable (declared_of self.old).names var }
-        requires place { IsBox (declared_of self.old).shape level low high }
-        requires value { IsLeafNumber value }
-        ensures mesh { values_of self.new ≡ plain_fill_box (values_of self.old) var level low high value }
-        ensures declared { declared_of self.new ≡ declared_of self.old }
-        ensures hierarchy { self.new.hierarchy ≡ self.old.hierarchy }
-    {
-        let contents = &mut self.contents[var as usize];
-        fill_box(&self.declared.shape, contents, level, low, high, value);
-    }
-
     /// Prints the numbers of a variable.
     fn print_variable<K: Sink>(&self, group: Group, sink: &mut K) -> Result<(), Failed>
         requires { IsGroup (declared_of self.now).names group }
-        ensures { Prints result (K.taken sink.old) (variable_text (values_of self.now) group) (K.taken sink.new) (K.faults sink.old) (K.faults sink.new) }
+        ensures { Prints result (K.taken sink.old) (variable_text (plain self.now) group) (K.taken sink.new) (K.faults sink.old) (K.faults sink.new) }
     {
         match group {
-            Group::Cell(var) => {
-                let tree = self.hierarchy.tree();
-                let values = CellValues {
-                    shape: &self.declared.shape,
-                    tree,
-                    contents: &self.contents[var as usize],
-                };
-                print_var(sink, tree, self.declared.names.cell(var), group, &values)
-            }
+            Group::Cell(var) => print_var(
+                sink,
+                self.world.tree(),
+                self.names.cell(var),
+                group,
+                &self.world,
+            ),
             Group::Face | Group::Edge => unreachable!(),
         }
+    }
+
+    /// Fills the guard cells of the variable in all leaves. No content changes.
+    fn fill_guards(&mut self, var: u32)
+        requires variable { IsCellVariable (declared_of self.old).names var }
+        ensures mesh { plain self.new ≡ plain self.old }
+        ensures told { self.new.world.told ≡ self.old.world.told }
+        ensures guards { LeavesGuarded self.new.world var ((plain self.old).cells var) }
+        ensures declared { declared_of self.new ≡ declared_of self.old }
+    {
+        restrict_all(&mut self.world, Group::Cell(var));
+        fill(&mut self.world, Group::Cell(var));
+    }
+
+    /// Prints the numbers of a variable in and round a leaf.
+    fn print_guards<K: Sink>(
+        &mut self,
+        group: Group,
+        at: BlockAt,
+        sink: &mut K,
+    ) -> Result<(), Cause>
+        requires { IsGroup (declared_of self.old).names group }
+        ensures acts { Acts result (plain self.old) (Command.PrintGuards group at) (plain self.new) (record { before = K.taken sink.old; after = K.taken sink.new; faults = K.faults sink.old; new_faults = K.faults sink.new }) }
+        ensures declared { declared_of self.new ≡ declared_of self.old }
+    {
+        let var = match group {
+            Group::Cell(var) => var,
+            Group::Face | Group::Edge => unreachable!(),
+        };
+        let node = match self.world.tree().leaf_at(at) {
+            Some(node) => node,
+            None => return Err(Cause::PlaceBlock(at)),
+        };
+        self.fill_guards(var);
+        written(print_guards(
+            sink,
+            self.world.tree(),
+            self.names.cell(var),
+            Group::Cell(var),
+            &self.world,
+            node,
+        ))
     }
 
     /// Prints the total of a cell variable.
     fn print_total<K: Sink>(&self, var: u32, sink: &mut K) -> Result<(), Failed>
         requires { IsCellVariable (declared_of self.now).names var }
-        ensures { Prints result (K.taken sink.old) (total_text (values_of self.now) var) (K.taken sink.new) (K.faults sink.old) (K.faults sink.new) }
+        ensures { Prints result (K.taken sink.old) (total_text (plain self.now) var) (K.taken sink.new) (K.faults sink.old) (K.faults sink.new) }
     {
-        let total = total(
-            &self.declared.shape,
-            self.hierarchy.tree(),
-            &self.contents[var as usize],
-        );
-        print_total(
-            sink,
-            self.declared.names.cell(var),
-            total,
-            self.outs[var as usize],
-        )
+        let total = total(&self.world, var);
+        print_total(sink, self.names.cell(var), total, self.outs[var as usize])
     }
 }

@@ -4,11 +4,16 @@
 mod advection;
 pub mod built;
 pub mod cause;
-mod contents;
+mod cells;
 pub mod engine;
-mod hierarchy;
+mod filling;
+mod flowing;
+mod hindrance;
 pub mod laws;
-mod values;
+mod marking;
+mod region;
+mod settling;
+mod totals;
 
 pub use mesh_model::Group;
 pub use mesh_model::language::names::Names;

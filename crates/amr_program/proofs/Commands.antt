@@ -2,18 +2,12 @@
 use Rattle.std.proofs.lemmas.Bool.{and_parts}
 use Rattle.std.specs.List.{list_all}
 use Rattle.std.proofs.lemmas.List.Elements.{All-cons, All-nil}
-use Rattle.std.proofs.Common.{◌≡◌, ℕ, ◌≤◌, is_none, Bool, true, false, ◌&&◌, if◌then◌else◌, All, zero, suc, ◌+◌, ◌<◌, ◌++◌, ◌⊎◌, List, [], ◌∷◌, Option, Some, None, Result, Ok, Err, IfSome, length, get_or, take, drop, inl, inr, refl, sym, ap, subst, ◌∙◌, arith, append_assoc, append-nil, length-append}
+use Rattle.std.proofs.Common.{◌≡◌, ℕ, ◌≤◌, is_none, Bool, true, false, if◌then◌else◌, All, zero, suc, ◌+◌, ◌<◌, ◌++◌, List, [], ◌∷◌, Option, Some, None, Result, Ok, Err, IfSome, length, get_or, take, drop, inl, inr, refl, sym, ap, subst, ◌∙◌, arith, append_assoc, append-nil, length-append}
 use Rattle.std.proofs.Math.Seq.{take-suc}
-use Rattle.amr_num.specs.declared.Axis.{Axis}
-use Rattle.amr_num.specs.declared.Axis.TheVariants.{X, Y, Z}
-use Rattle.amr_num.specs.declared.SideKind.{SideKind}
-use Rattle.amr_num.specs.declared.SideKind.TheVariants.{Periodic}
 use Rattle.script_lang.proofs.Scripts.{script_fits, script_in_limits}
 use Rattle.mesh_model.specs.declared.language.script.Command.{Command}
 use Rattle.mesh_model.specs.declared.run.stops.Refusal as stops
-use Rattle.mesh_model.specs.Geometry.Coordinates.{is_periodic_kind, roots, side_index, side_kind}
 use Rattle.mesh_model.specs.Language.Grammar.{script_of, Fault}
-use Rattle.mesh_model.specs.Geometry.Limits.{IsShape}
 use Rattle.mesh_model.specs.Run.StopTexts.{stop_line}
 use Rattle.mesh_model.specs.Run.Stops.{refusal}
 use Rattle.mesh_model.specs.Fields.Valid.{ValidMesh}
@@ -24,7 +18,6 @@ use Rattle.amr_engine.specs.declared.cause.StoppedBy.{StoppedBy}
 use Rattle.amr_engine.specs.declared.cause.StoppedBy.TheVariants as by
 use Rattle.amr_engine.specs.Stopping.{Leaves, MayStop, Written, Wrote, WrotePart}
 use Rattle.amr_report.proofs.Printed.{broke_within}
-use Rattle.amr_engine.specs.Contents.{IsRoots}
 use Rattle.amr_engine.specs.Built.{IsBuiltLine, is_built, is_built_mesh, is_built_command}
 use Rattle.mesh_model.specs.Language.Commands.{InLimits, IsLineOf, PlainScript}
 use Rattle.mesh_model.specs.Fields.Plain.{Mesh}
@@ -254,13 +247,13 @@ pub built_mesh : (s : PlainScript) → is_built s 1 1 ≡ true → is_built_mesh
 unfolding is_built
 built_mesh s h = (and_parts _ _ (and_parts _ _ (and_parts _ _ h).0).0).0
 
-pub built_lines : (s : PlainScript) → is_built s 1 1 ≡ true → All (IsBuiltLine s.declared) s.lines
+pub built_lines : (s : PlainScript) → is_built s 1 1 ≡ true → All IsBuiltLine s.lines
 unfolding is_built
 built_lines s h = each s.lines (and_parts _ _ h).1
   where
-    each : (lines : List Line) → list_all (λ line. is_built_command s.declared line.command) lines ≡ true → All (IsBuiltLine s.declared) lines
-    each [] all = All-nil (IsBuiltLine s.declared)
-    each (line ∷ lines) all = All-cons (IsBuiltLine s.declared) line lines (and_parts _ _ all).0 (each lines (and_parts _ _ all).1)
+    each : (lines : List Line) → list_all (λ line. is_built_command line.command) lines ≡ true → All IsBuiltLine lines
+    each [] all = All-nil IsBuiltLine
+    each (line ∷ lines) all = All-cons IsBuiltLine line lines (and_parts _ _ all).0 (each lines (and_parts _ _ all).1)
 
 none_there : {A : Type 0} (o : Option A) → is_none o ≡ true → o ≡ None
 none_there None h = refl
@@ -269,26 +262,6 @@ none_there (Some x) h = absurd (cc)
 pub built_names : (d : Declared) → is_built_mesh d ≡ true → (d.names.face ≡ None) × (d.names.edge ≡ None)
 unfolding is_built_mesh
 built_names d h = (none_there d.names.face (and_parts _ _ h).0, none_there d.names.edge (and_parts _ _ h).1)
-
-pub roots_of : (d : Declared) → InLimits d → IsRoots d.shape
-roots_of d limits =
-    let n : (d.shape.n ≡ 4) ⊎ (d.shape.n ≡ 8) = limits.shape.cells in
-    record {
-      some_cells = elim n [ inl e ↦ omega arith | inr e ↦ omega arith ];
-      few_cells = elim n [ inl e ↦ omega arith | inr e ↦ omega arith ];
-      some = some_on;
-      few = few_on;
-    }
-  where
-    some_on : (a : Axis) → 0 < roots d.shape a
-    some_on X = limits.shape.rx
-    some_on Y = limits.shape.ry
-    some_on Z = limits.shape.rz
-
-    few_on : (a : Axis) → roots d.shape a ≤ 8
-    few_on X = limits.shape.few_x
-    few_on Y = limits.shape.few_y
-    few_on Z = limits.shape.few_z
 
 -- ---- laws along a run
 

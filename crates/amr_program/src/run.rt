@@ -10,6 +10,7 @@ ghost use Rattle.mesh_model.specs.Language.Commands.{InLimits, IsLineOf, plain_s
 ghost use Rattle.mesh_model.specs.Language.Grammar.{script_of};
 ghost use Rattle.mesh_model.specs.Run.Runs.{done, stop, texts};
 ghost use Rattle.mesh_model.specs.Run.StopTexts.{stop_line};
+ghost use Rattle.mesh_model.specs.Fields.Ranks.{IsSized};
 ghost use Rattle.std.specs.Prelude.{◌≡◌, true, All, IfErr, OnOk, None, Ok, Err};
 
 use crate::not_run::NotRun;
@@ -59,14 +60,14 @@ pub fn end<K: Sink>(sink: &mut K, line: &str, status: Status) -> Status
 }
 
 /// Does the commands of the lines in order, up to the first that stops.
-fn run<K: Sink, D: Disk>(
-    engine: &mut Engine,
+fn run<const N: usize, const G: usize, K: Sink, D: Disk>(
+    engine: &mut Engine<N, G>,
     lines: &[ScriptLine],
     sink: &mut K,
     disk: &mut D,
 ) -> Result<(), Stop>
     requires fit { All (IsLineOf (declared_of engine.old)) lines.now }
-    requires built { All (IsBuiltLine (declared_of engine.old)) lines.now }
+    requires built { All IsBuiltLine lines.now }
     ensures text { OnOk result (Wrote (texts (plain engine.old) (done (plain engine.old) lines.now)) (record { before = K.taken sink.old; after = K.taken sink.new; faults = K.faults sink.old; new_faults = K.faults sink.new })) }
     ensures whole { OnOk result (stop (plain engine.old) lines.now ≡ None) }
     ensures stops { IfErr result (λ stopped. RunStops (stopped_by stopped.cause) stopped.line (plain engine.old) lines.now (record { before = K.taken sink.old; after = K.taken sink.new; faults = K.faults sink.old; new_faults = K.faults sink.new })) }
@@ -88,7 +89,11 @@ fn end_refused<K: Sink>(sink: &mut K, names: &Names, line: u32, why: Refusal) ->
 }
 
 /// Ends a run that is stopped.
-fn end_stopped<K: Sink>(engine: &Engine, stop: Stop, sink: &mut K) -> Status
+fn end_stopped<const N: usize, const G: usize, K: Sink>(
+    engine: &Engine<N, G>,
+    stop: Stop,
+    sink: &mut K,
+) -> Status
     ensures { Stopped (stopped_by stop.cause) stop.line (declared_of engine.now).names result (record { before = K.taken sink.old; after = K.taken sink.new; faults = K.faults sink.old; new_faults = K.faults sink.new }) }
 {
     match stop.cause.stopped_by() {
@@ -98,8 +103,14 @@ fn end_stopped<K: Sink>(engine: &Engine, stop: Stop, sink: &mut K) -> Status
     }
 }
 
-/// Runs a script from the start mesh.
-fn run_script<K: Sink, D: Disk>(alloc: Global, script: Script, sink: &mut K, disk: &mut D) -> Status
+/// Runs a script from the start mesh, in blocks of `N` cells along each axis with `G` guard cells on each side.
+fn run_sized<const N: usize, const G: usize, K: Sink, D: Disk>(
+    alloc: Global,
+    script: Script,
+    sink: &mut K,
+    disk: &mut D,
+) -> Status
+    requires sizes { IsSized N G script.declared.shape }
     requires limits { InLimits script.declared }
     requires lines { All (IsLineOf script.declared) script.lines.items }
     requires built { is_built (plain_script script) 1 1 ≡ true }
@@ -107,13 +118,32 @@ fn run_script<K: Sink, D: Disk>(alloc: Global, script: Script, sink: &mut K, dis
     ensures disk { disk.new ≡ disk.old }
 {
     let Script { declared, lines } = script;
-    let mut engine = match Engine::new(alloc, declared) {
+    let mut engine = match Engine::<N, G>::new(alloc, declared) {
         Ok(engine) => engine,
         Err(_) => return end(sink, MEMORY_LINE, Status::OutOfMemory),
     };
     match run(&mut engine, &lines, sink, disk) {
         Ok(()) => Status::Done,
         Err(stop) => end_stopped(&engine, stop, sink),
+    }
+}
+
+/// Runs a script from the start mesh: here alone the sizes of blocks are told apart.
+fn run_script<K: Sink, D: Disk>(alloc: Global, script: Script, sink: &mut K, disk: &mut D) -> Status
+    requires limits { InLimits script.declared }
+    requires lines { All (IsLineOf script.declared) script.lines.items }
+    requires built { is_built (plain_script script) 1 1 ≡ true }
+    ensures came { Came (Ok (plain_script script)) result (record { before = K.taken sink.old; after = K.taken sink.new; faults = K.faults sink.old; new_faults = K.faults sink.new }) }
+    ensures disk { disk.new ≡ disk.old }
+{
+    match (script.declared.shape.n, script.declared.shape.g) {
+        (4, 1) => run_sized::<4, 1, K, D>(alloc, script, sink, disk),
+        (4, 2) => run_sized::<4, 2, K, D>(alloc, script, sink, disk),
+        (4, 4) => run_sized::<4, 4, K, D>(alloc, script, sink, disk),
+        (8, 1) => run_sized::<8, 1, K, D>(alloc, script, sink, disk),
+        (8, 2) => run_sized::<8, 2, K, D>(alloc, script, sink, disk),
+        (8, 4) => run_sized::<8, 4, K, D>(alloc, script, sink, disk),
+        _ => unreachable!(),
     }
 }
 

@@ -1,3 +1,4 @@
+pub mod Aboves
 pub mod Hand
 pub mod Lengths
 pub mod Pooled

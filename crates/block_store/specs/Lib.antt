@@ -1,3 +1,4 @@
+pub mod Above
 pub mod Held
 pub mod Lending
 pub mod Making

@@ -34,6 +34,16 @@ impl<'a, const N: usize, const G: usize> Cells<'a, N, G> {
         Cells { values }
     }
 
+    /// The array.
+    #[inline]
+    pub fn values(&self) -> &'a [i64]
+        ensures value { result.now ≡ self.now }
+        ensures size { IsSize N G }
+        ensures whole { length result.now ≡ size_of (cell_extents N G) }
+    {
+        self.values
+    }
+
     /// The number at block indices.
     pub fn get(&self, i: i64, j: i64, k: i64) -> i64
         requires { AreIndices G (cell_extents N G) i j k }

@@ -4,6 +4,7 @@
 //! places, an array on faces one more along its axis, and one on edges one more along the other two.
 #![tactic(auto)]
 
+mod above;
 mod cells;
 mod layout;
 mod making;
@@ -11,9 +12,10 @@ mod places;
 mod pool;
 mod store;
 
+pub use above::{Above, block_above};
 pub use cells::Cells;
 pub use layout::Layout;
-pub use places::{Extents, cell_row, number_of, place};
+pub use places::{Extents, cell_row, number_of, place, row};
 pub use pool::Pool;
 pub use store::Beside;
 

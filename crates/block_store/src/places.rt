@@ -63,7 +63,7 @@ impl Extents {
     }
 
     /// Those of an array of the faces normal to an axis.
-    fn of_faces(n: usize, g: usize, axis: Axis) -> Extents
+    pub fn of_faces(n: usize, g: usize, axis: Axis) -> Extents
         requires { IsSize n g }
         ensures { result ≡ places.face_extents n g axis }
     {
@@ -123,6 +123,27 @@ pub fn number_of(g: usize, extents: Extents, values: &[i64], i: i64, j: i64, k: 
     values[place(extents, x, y, z)]
 }
 
+/// A row of an array: the `many` places from (i, j, k) on along x.
+#[inline]
+pub fn row<'a>(
+    extents: Extents,
+    values: &'a [i64],
+    i: usize,
+    j: usize,
+    k: usize,
+    many: usize,
+) -> &'a [i64]
+    requires small { (extents.x ≤ 17) × (extents.y ≤ 17) × (extents.z ≤ 17) }
+    requires whole { length values.now ≡ size_of extents }
+    requires some { 0 < many }
+    requires inside { (i + many ≤ extents.x) × (j < extents.y) × (k < extents.z) }
+    ensures size { length result.now ≡ many }
+    ensures numbers { (t : ℕ) → t < many → at result.now t ≡ places.number_at extents values.now (i + t) j k }
+{
+    let start = place(extents, i, j, k);
+    &values[start..start + many]
+}
+
 /// A row of a block's cells, without guard cells: those with the coordinates j on y and k on z in the block.
 #[inline]
 pub fn cell_row<'a>(n: usize, g: usize, values: &'a [i64], j: usize, k: usize) -> &'a [i64]
@@ -132,8 +153,7 @@ pub fn cell_row<'a>(n: usize, g: usize, values: &'a [i64], j: usize, k: usize) -
     ensures size { length result.now ≡ n }
     ensures cells { (i : ℕ) → i < n → at result.now i ≡ places.number_at (places.cell_extents n g) values.now (g + i) (g + j) (g + k) }
 {
-    let start = place(Extents::of_cells(n, g), g, g + j, g + k);
-    &values[start..start + n]
+    row(Extents::of_cells(n, g), values, g, g + j, g + k, n)
 }
 
 ghost use Rattle.amr_num.specs.Numbers.{at};

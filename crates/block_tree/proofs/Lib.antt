@@ -15,3 +15,4 @@ pub mod Made
 pub mod Regrowing
 pub mod Taking
 pub mod Flat
+pub mod Later

@@ -1,1 +1,4 @@
+pub mod Meshes
 pub mod Slotted
+pub mod Contents
+pub mod Puts

@@ -1,13 +1,15 @@
 -- Worlds whose nodes hold the views of a field.
-use Rattle.std.specs.Prelude.{◌≡◌, ℕ, ◌+◌, ◌<◌, ◌^◌, ◌↔◌, true, List, length, ℤ, None}
+use Rattle.std.specs.Prelude.{◌≡◌, ℕ, ◌+◌, ◌<◌, ◌↔◌, true, List, length, ℤ, None}
 use Rattle.amr_num.specs.declared.CellAt.{CellAt}
 use Rattle.amr_num.specs.Numbers.{Within, number_range}
+use Rattle.mesh_model.specs.declared.fields.values.Var.{Var}
 use Rattle.mesh_model.specs.declared.fields.values.Var.TheVariants.{Cell}
 use Rattle.mesh_model.specs.Fields.Arrays.{array_in}
 use Rattle.mesh_model.specs.Fields.Octants.{cells_of}
 use Rattle.mesh_model.specs.Fields.ArrayPlaces.{HoldsViews}
 use Rattle.mesh_model.specs.Tree.Kinds.{Grid, is_leaf_block}
 use Rattle.mesh_model.specs.Fields.Plain.{Mesh}
+use Rattle.mesh_model.specs.Fields.Valid.{ValidMesh}
 use Rattle.mesh_model.specs.Fields.Ranks.{WorldState, rank_at}
 use Rattle.block_tree.specs.Numbered.{IsNode, block_at}
 
@@ -33,6 +35,11 @@ LeavesHold w v content = (node : ℕ) → IsLeafNode w.told.grid node → NodeHo
 abbrev pub NodesHold : WorldState → ℕ → (CellAt → ℤ) → Type 0
 NodesHold w v content = (node : ℕ) → IsNode w.told.grid node → NodeHolds w v content node
 
+-- the numbers of one cell variable may be others
+pub record OnlyCells (old new : WorldState) (v : ℕ) : Type 0 where
+  pub told : new.told ≡ old.told
+  pub others : (u : Var) (node : ℕ) → (u ≡ Cell v → ⊥) → array_in (rank_at new 0).own.values u node ≡ array_in (rank_at old 0).own.values u node
+
 -- the numbers of a leaf's cells are at most 2^40 in absolute value
 pub record LeafInRange (w : WorldState) (v node : ℕ) : Type 0 where
   pub cells : (i j k : ℕ) → let s = w.told.grid.shape in i < s.n → j < s.n → k < s.n → Within number_range (numbers_of w v node (s.g + i) (s.g + j) (s.g + k))
@@ -47,3 +54,9 @@ pub record IsOfMesh (w : WorldState) (m : Mesh) : Type 0 where
   pub faces : (w.told.counts.faces ≡ 0) ↔ (m.names.face ≡ None)
   pub edges : (w.told.counts.edges ≡ 0) ↔ (m.names.edge ≡ None)
   pub contents : (v : ℕ) → v < w.told.counts.cells → LeavesHold w v (m.cells v)
+
+-- the world is that of a valid mesh
+pub record IsOfValidMesh (w : WorldState) : Type 0 where
+  pub mesh : Mesh
+  pub valid : ValidMesh mesh
+  pub world : IsOfMesh w mesh

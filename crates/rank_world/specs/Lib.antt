@@ -1,6 +1,9 @@
 pub mod Holding
+pub mod Contents
+pub mod Writing
 pub mod Knowing
 pub mod Slots
 pub mod Starting
+pub mod Puts
 pub mod RankLends
 pub mod WorldLends

@@ -66,7 +66,7 @@ one_part : {B : Type 0} (p : B → Bool) (f : BlockAt → List B) (t : Bool) (x 
 one_part p f true x ys = find-append p (f x) (flat_map f ys)
 one_part p f false x ys = refl
 
-found_filtered : {B : Type 0} (p : B → Bool) (f : BlockAt → List B) (q : BlockAt → Bool) (xs : List BlockAt) →
+pub found_filtered : {B : Type 0} (p : B → Bool) (f : BlockAt → List B) (q : BlockAt → Bool) (xs : List BlockAt) →
     find p (flat_map f (filter q xs)) ≡ first_below (length xs) (λ k. if q (block_in xs k) then find p (f (block_in xs k)) else None)
 found_filtered p f q [] = refl
 found_filtered p f q (x ∷ xs) =

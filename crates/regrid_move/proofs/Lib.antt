@@ -1,6 +1,6 @@
-pub mod Aboves
 pub mod Excess
 pub mod Moved
 pub mod Regridded
 pub mod Steps
 pub mod Stops
+pub mod Puts

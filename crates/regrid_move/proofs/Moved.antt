@@ -6,18 +6,17 @@ use Rattle.block_tree.proofs.Leaves.{split_leaf, leaf_node, parent_node}
 use Rattle.regrid_move.specs.Near.{MayMove, IsNear}
 use Rattle.mesh_model.specs.declared.fields.values.Var.{Var}
 use Rattle.mesh_model.proofs.TreeLemmas.Tests.{refuted}
-use Rattle.std.proofs.Common.{◌≡◌, ◌≢◌, ℕ, ◌<◌, ◌⊎◌, true, false, List, length, ℤ, refl, sym, ap, ap₂, subst, ◌∙◌, arith, inl, inr}
+use Rattle.std.proofs.Common.{◌≡◌, ℕ, ◌<◌, false, List, ℤ, sym, ap, subst, ◌∙◌, arith, inl, inr}
 use Rattle.amr_num.specs.declared.BlockAt.{BlockAt}
 use Rattle.amr_num.specs.declared.CellAt.{CellAt}
 use Rattle.mesh_model.specs.declared.geometry.Shape.{Shape}
 use Rattle.mesh_model.specs.Geometry.Blocks.{child_block, parent_block}
-use Rattle.mesh_model.specs.Fields.Octants.{IsRestricted, IsSplit, OctantHolds, cells_of, SumsAreSmall}
+use Rattle.mesh_model.specs.Fields.Octants.{IsSplit, OctantHolds, cells_of}
 use Rattle.mesh_model.specs.Fields.ArrayPlaces.{HoldsViews, cell_extents, number_at}
 use Rattle.mesh_model.specs.Tree.Kinds.{Grid, is_leaf_block, is_split_block}
 use Rattle.mesh_model.specs.Fields.Ranks.{IsSized, WorldState, IsFit, OnlyOf, Told}
 use Rattle.mesh_model.specs.Tree.ValidGrid.{Valid}
-use Rattle.mesh_model.proofs.FieldLemmas.BlockOctants.{child_parted, octant_summed, other_octant}
-use Rattle.block_tree.specs.Numbered.{IsNode, block_at, IsNumberOf}
+use Rattle.block_tree.specs.Numbered.{block_at, IsNumberOf}
 use Rattle.rank_world.specs.Holding.{IsLeafNode, cell_array, numbers_of}
 
 -- the numbers of an array that a new leaf has, in the old grid's shape
@@ -37,14 +36,10 @@ pub octant_of : (old new : WorldState) (v node : ℕ) (content : CellAt → ℤ)
     OctantHolds old.told.grid content b q (numbers_of new v node) → OctantHolds old.told.grid content b q (cells_of old.told.grid (cell_array new v node))
 octant_of old new v node content b q shape holds = subst (λ (s : Shape). OctantHolds old.told.grid content b q (number_at (cell_extents s.n s.g) (cell_array new v node))) shape holds
 
--- parts and sums in the grid's words
+-- parts in the grid's words
 pub split_sized : (n e q : ℕ) (s : Shape) (parent old new : List ℤ) → IsSized n e s → IsSplit n e q parent old new → IsSplit s.n s.g q parent old new
 split_sized n e q s parent old new sized is =
     subst (λ m. IsSplit m s.g q parent old new) (sym sized.cells) (subst (λ m. IsSplit n m q parent old new) (sym sized.guards) is)
-
-pub restricted_sized : (n e q : ℕ) (s : Shape) (child old new : List ℤ) → IsSized n e s → IsRestricted n e q child old new → IsRestricted s.n s.g q child old new
-restricted_sized n e q s child old new sized is =
-    subst (λ m. IsRestricted m s.g q child old new) (sym sized.cells) (subst (λ m. IsRestricted n m q child old new) (sym sized.guards) is)
 
 -- a leaf is not split
 pub whole_leaf : (g : Grid) → Valid g → (node : ℕ) → IsLeafNode g node → is_split_block g (block_at g node) ≡ false
@@ -61,11 +56,6 @@ may_again n g old a b v node var may only fit = record {
   range = may.range;
   leaf = subst (λ (t : Told). IsLeafNode t.grid node) (sym only.told) may.leaf;
 }
-
--- sums that are small enough, in the sizes of the world's blocks
-pub few_sized : (n e : ℕ) (s : Shape) (child : List ℤ) → IsSized n e s → SumsAreSmall s.n s.g (number_at (cell_extents s.n s.g) child) → SumsAreSmall n e (number_at (cell_extents n e) child)
-few_sized n e s child sized few =
-    subst (λ m. SumsAreSmall m e (number_at (cell_extents m e) child)) sized.cells (subst (λ m. SumsAreSmall s.n m (number_at (cell_extents s.n m) child)) sized.guards few)
 
 -- a child that is listed among the leaves is a leaf node
 pub leaf_node_of : (g : Grid) (b : BlockAt) (node : ℕ) → IsNumberOf g b node → IsIn b g.leaves → IsLeafNode g node

@@ -1,13 +1,13 @@
 -- Worlds that are written leaf by leaf, and variable by variable.
-use Rattle.std.proofs.Common.{◌≡◌, ℕ, ◌<◌, false, ℤ, List, Option, Some, None, is_some, refl, sym, ap, subst, ◌∙◌}
+use Rattle.std.proofs.Common.{◌≡◌, ℕ, false, ℤ, Option, Some, None, is_some, refl, sym, subst, ◌∙◌}
 use Rattle.amr_num.specs.declared.CellAt.{CellAt}
 use Rattle.mesh_model.specs.declared.fields.values.Var.TheVariants.{Cell}
 use Rattle.mesh_model.specs.Fields.Octants.{cells_of}
 use Rattle.mesh_model.specs.Fields.ArrayPlaces.{HoldsViews}
 use Rattle.mesh_model.specs.Fields.Ranks.{OnlyOf, Told, WorldState}
 use Rattle.block_tree.specs.Numbered.{block_at}
-use Rattle.rank_world.specs.Holding.{IsLeafNode, cell_array}
-use Rattle.regrid_move.specs.Near.{NodeMoved, LeavesMoved, OnlyCells}
+use Rattle.rank_world.specs.Holding.{IsLeafNode, OnlyCells, cell_array}
+use Rattle.regrid_move.specs.Near.{NodeMoved, LeavesMoved}
 
 pub none_is : {A : Type 0} (r : Option A) → is_some r ≡ false → r ≡ None
 none_is None h = refl

@@ -20,9 +20,9 @@ use Rattle.mesh_model.specs.declared.fields.spot.Spot.TheVariants as spots
 use Rattle.mesh_model.proofs.FieldLemmas.FirstFound.{box_mapped, box_same}
 use Rattle.mesh_model.specs.Fields.Ranks.{IsSized}
 use Rattle.block_tree.proofs.Next.{has_key}
-use Rattle.regrid_move.specs.Above.{above_at, first_in_block}
+use Rattle.block_store.specs.Above.{above_at, first_in_block}
 use Rattle.regrid_move.specs.Near.{block_stop, view_stop}
-use Rattle.regrid_move.specs.declared.above.Above.{Above}
+use Rattle.block_store.specs.declared.above.Above.{Above}
 
 -- what is found is at a place below n
 pub was_found : {A : Type 0} (n : ℕ) (at : ℕ → Option A) (x : A) → first_below n at ≡ Some x → (k : ℕ) × (k < n) × (at k ≡ Some x)

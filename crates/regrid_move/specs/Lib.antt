@@ -1,3 +1,3 @@
-pub mod Above
 pub mod Near
 pub mod Regrids
+pub mod Tried

@@ -1,10 +1,7 @@
 -- Grids whose leaves lie near each other's, and worlds whose leaves hold what they are to hold.
-use Rattle.std.specs.Prelude.{◌≡◌, ℕ, ◌<◌, ◌⊎◌, ◌^◌, true, ℤ, length, Option, None, Some, if◌then◌else◌}
+use Rattle.std.specs.Prelude.{◌≡◌, ℕ, ◌<◌, ◌⊎◌, ◌^◌, ℤ, length, Option, None, Some, if◌then◌else◌}
 use Rattle.amr_num.specs.declared.BlockAt.{BlockAt}
 use Rattle.amr_num.specs.declared.CellAt.{CellAt}
-use Rattle.mesh_model.specs.declared.fields.values.Var.{Var}
-use Rattle.mesh_model.specs.declared.fields.values.Var.TheVariants.{Cell}
-use Rattle.mesh_model.specs.Fields.Arrays.{array_in}
 use Rattle.mesh_model.specs.Geometry.Blocks.{child_block, parent_block}
 use Rattle.mesh_model.specs.Tree.Order.{IsIn, nodes}
 use Rattle.mesh_model.specs.Fields.Octants.{OctantHolds}
@@ -16,10 +13,10 @@ use Rattle.mesh_model.specs.Fields.RangeWalk.{is_above}
 use Rattle.mesh_model.specs.declared.fields.values.Group.TheVariants as groups
 use Rattle.mesh_model.specs.declared.fields.spot.RangeStop.{RangeStop}
 use Rattle.mesh_model.specs.declared.fields.spot.Spot.TheVariants as spots
-use Rattle.mesh_model.specs.Fields.Ranks.{IsFit, WorldState, rank_at}
+use Rattle.mesh_model.specs.Fields.Ranks.{IsFit, WorldState}
 use Rattle.mesh_model.specs.Fields.Views.{cell_view}
 use Rattle.block_tree.specs.Numbered.{block_at}
-use Rattle.rank_world.specs.Holding.{IsLeafNode, LeavesHold, LeavesInRange, numbers_of}
+use Rattle.rank_world.specs.Holding.{IsLeafNode, LeavesInRange, numbers_of}
 
 -- a block is a leaf of the old grid, or its parent is, or its eight children are
 pub record IsNear (old : Grid) (b : BlockAt) : Type 0 where
@@ -51,11 +48,6 @@ OctantMoved old new v content node q = OctantHolds old.told.grid content (block_
 -- so does each leaf
 abbrev pub LeavesMoved : WorldState → WorldState → ℕ → (CellAt → ℤ) → Type 0
 LeavesMoved old new v content = (node : ℕ) → IsLeafNode new.told.grid node → NodeMoved old new v content node
-
--- the numbers of one variable may be others
-pub record OnlyCells (old new : WorldState) (v : ℕ) : Type 0 where
-  pub told : new.told ≡ old.told
-  pub others : (u : Var) (node : ℕ) → (u ≡ Cell v → ⊥) → array_in (rank_at new 0).own.values u node ≡ array_in (rank_at old 0).own.values u node
 
 -- all variables of the old world may be moved into the new one
 pub record MayMoveAll (n g : ℕ) (old new : WorldState) : Type 0 where

@@ -4,9 +4,11 @@
 //! end. So a refusal leaves the first as it was.
 #![tactic(auto)]
 
-mod above;
 mod leaves;
 mod moving;
 mod regridding;
 
 pub use regridding::{RegridStop, regrid};
+
+#[cfg(test)]
+mod tests;

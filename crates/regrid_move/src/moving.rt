@@ -4,13 +4,13 @@ ghost use Rattle.amr_num.specs.declared.CellAt.{CellAt};
 ghost use Rattle.block_tree.specs.Numbered.{IsNode, block_at};
 ghost use Rattle.mesh_model.specs.Fields.Ranks.{IsFit, OnlyOf};
 ghost use Rattle.mesh_model.specs.declared.fields.values.Var.TheVariants.{Cell};
-ghost use Rattle.rank_world.specs.Holding.{IsLeafNode, LeavesHold};
-ghost use Rattle.regrid_move.specs.Near.{LeavesMoved, MayMove, MayMoveAll, NodeMoved, OnlyCells, all_stop, block_stop, node_stop, variable_stop, IsNear};
+ghost use Rattle.rank_world.specs.Holding.{IsLeafNode, LeavesHold, OnlyCells};
+ghost use Rattle.regrid_move.specs.Near.{LeavesMoved, MayMove, MayMoveAll, NodeMoved, all_stop, block_stop, node_stop, variable_stop, IsNear};
 ghost use Rattle.std.specs.Prelude.{◌≡◌, ◌<◌, ◌≤◌, ◌+◌, ◌*◌, ℕ, ℤ, None};
 
-use crate::above::{Above, block_above};
 use crate::leaves::move_leaf;
 use amr_num::{BlockAt, CellAt};
+use block_store::{Above, block_above};
 use mesh_model::{Group, RangeStop, Spot, Var};
 use rank_world::World;
 

@@ -13,7 +13,9 @@ use Rattle.mesh_model.specs.Tree.ValidGrid.{Valid}
 use Rattle.mesh_model.specs.Fields.Views.{cell_view, view_at}
 use Rattle.mesh_model.proofs.FieldLemmas.CellSums.{TreeLike, at_inner, cell_view_sum, parent_of_sub, octant_of_sub}
 use Rattle.mesh_model.proofs.FieldLemmas.ValidGrid.{tree}
-use Rattle.mesh_model.specs.Fields.ArrayPlaces.{HoldsViews, IsInBox, side, Fits, IsSize, cell_extents}
+use Rattle.mesh_model.specs.declared.geometry.Shape.{Shape}
+use Rattle.mesh_model.specs.Fields.Ranks.{IsSized}
+use Rattle.mesh_model.specs.Fields.ArrayPlaces.{HoldsViews, IsInBox, side, Fits, IsSize, cell_extents, number_at}
 use Rattle.mesh_model.specs.Fields.Octants.{IsRestricted, IsSplit, OctantHolds, cells_of, eight, half_at, octant_box, parted, SumsAreSmall}
 use Rattle.mesh_model.proofs.GeometryLemmas.Halves.{half_below, half_of, halved, in_half, pair_inside, rest_below, same_half, two_halves, by_size}
 use Rattle.mesh_model.proofs.FieldLemmas.BlockPlaces.{above_digit}
@@ -131,39 +133,43 @@ view_parted g content c o like h whole =
     sym (at_inner g content c.level (sub_cell c o) (like.below_whole c o whole) (like.below_whole_leaf c o whole)
     ∙ ap₂ (λ r d. part r (view_at g content c.level d) 8) (octant_of_sub c o h) (parent_of_sub c o))
 
--- a child whose cells were given their parts of a block that is not split holds views
-pub child_parted : (g : Grid) (content : CellAt → ℤ) (b : BlockAt) (q : ℕ) (parent old new : List ℤ) → Valid g → q < 8 → is_split_block g b ≡ false →
-    IsSplit g.shape.n g.shape.g q parent old new → HoldsViews g content b (cells_of g parent) → HoldsViews g content (child_block b q) (cells_of g new)
+-- in a block that is not split and holds views, the parts of its cells are the views of its child's cells
+pub parts_are_views : (g : Grid) (content : CellAt → ℤ) (b : BlockAt) (q : ℕ) (parent : ℕ → ℕ → ℕ → ℤ) → Valid g → q < 8 → is_split_block g b ≡ false →
+    HoldsViews g content b parent → (i j k : ℕ) → i < g.shape.n → j < g.shape.n → k < g.shape.n →
+    parted g.shape.n g.shape.g q parent i j k ≡ cell_view g content (in_block g.shape.n (child_block b q) i j k)
 unfolding parted
-child_parted g content b q parent old new valid hq whole parts views =
+parts_are_views g content b q parent valid hq whole views i j k hi hj hk =
     let n = g.shape.n in
     let e = g.shape.g in
-    let numbers = cells_of g parent in
     let size = valid.shape.cells in
-    record {
-      at = λ i j k hi hj hk.
-          let o = i % 2 + 2 * (j % 2) + 4 * (k % 2) in
-          let u = half_at n q + i / 2 in
-          let v = half_at n (q / 2) + j / 2 in
-          let w = half_at n (q / 4) + k / 2 in
-          let hu = in_half n (q % 2) (i / 2) size (omega arith) (half_of n i size hi) in
-          let hv = in_half n (q / 2 % 2) (j / 2) size (omega arith) (half_of n j size hj) in
-          let hw = in_half n (q / 4 % 2) (k / 2) size (omega arith) (half_of n k size hk) in
-          let c = in_block n b u v w in
-          let not_split : is_split g c ≡ false = ap (is_split_block g) (block_of_cell n b u v w hu hv hw) ∙ whole in
-          let x : e + half_at n q + i / 2 ≡ e + u = omega arith in
-          let y : e + half_at n (q / 2) + j / 2 ≡ e + v = omega arith in
-          let z : e + half_at n (q / 4) + k / 2 ≡ e + w = omega arith in
-          let there =
-          ap (λ l. numbers l (e + half_at n (q / 2) + j / 2) (e + half_at n (q / 4) + k / 2)) x ∙ ap₂ (λ l m. numbers (e + u) l m) y z ∙ views.at u v w hu hv hw in
-          let ox : 2 * (i / 2) + o % 2 ≡ i = omega arith in
-          let oy : 2 * (j / 2) + o / 2 % 2 ≡ j = omega arith in
-          let oz : 2 * (k / 2) + o / 4 % 2 ≡ k = omega arith in
-          parts.written i j k hi hj hk ∙ ap (λ m. part o m 8) there ∙ view_parted g content c o (tree g valid) (omega arith) not_split
-          ∙ ap (cell_view g content) (sym (cell_of_child n b q (i / 2) (j / 2) (k / 2) o size))
-          ∙ ap (λ l. cell_view g content (in_block n (child_block b q) l (2 * (j / 2) + o / 2 % 2) (2 * (k / 2) + o / 4 % 2))) ox
-          ∙ ap₂ (λ l m. cell_view g content (in_block n (child_block b q) i l m)) oy oz;
-    }
+    let o = i % 2 + 2 * (j % 2) + 4 * (k % 2) in
+    let u = half_at n q + i / 2 in
+    let v = half_at n (q / 2) + j / 2 in
+    let w = half_at n (q / 4) + k / 2 in
+    let hu = in_half n (q % 2) (i / 2) size (omega arith) (half_of n i size hi) in
+    let hv = in_half n (q / 2 % 2) (j / 2) size (omega arith) (half_of n j size hj) in
+    let hw = in_half n (q / 4 % 2) (k / 2) size (omega arith) (half_of n k size hk) in
+    let c = in_block n b u v w in
+    let not_split : is_split g c ≡ false = ap (is_split_block g) (block_of_cell n b u v w hu hv hw) ∙ whole in
+    let x : e + half_at n q + i / 2 ≡ e + u = omega arith in
+    let y : e + half_at n (q / 2) + j / 2 ≡ e + v = omega arith in
+    let z : e + half_at n (q / 4) + k / 2 ≡ e + w = omega arith in
+    let there =
+    ap (λ l. parent l (e + half_at n (q / 2) + j / 2) (e + half_at n (q / 4) + k / 2)) x ∙ ap₂ (λ l m. parent (e + u) l m) y z ∙ views.at u v w hu hv hw in
+    let ox : 2 * (i / 2) + o % 2 ≡ i = omega arith in
+    let oy : 2 * (j / 2) + o / 2 % 2 ≡ j = omega arith in
+    let oz : 2 * (k / 2) + o / 4 % 2 ≡ k = omega arith in
+    ap (λ m. part o m 8) there ∙ view_parted g content c o (tree g valid) (omega arith) not_split
+    ∙ ap (cell_view g content) (sym (cell_of_child n b q (i / 2) (j / 2) (k / 2) o size))
+    ∙ ap (λ l. cell_view g content (in_block n (child_block b q) l (2 * (j / 2) + o / 2 % 2) (2 * (k / 2) + o / 4 % 2))) ox
+    ∙ ap₂ (λ l m. cell_view g content (in_block n (child_block b q) i l m)) oy oz
+
+-- a child whose cells were given these parts holds views
+pub child_parted : (g : Grid) (content : CellAt → ℤ) (b : BlockAt) (q : ℕ) (parent old new : List ℤ) → Valid g → q < 8 → is_split_block g b ≡ false →
+    IsSplit g.shape.n g.shape.g q parent old new → HoldsViews g content b (cells_of g parent) → HoldsViews g content (child_block b q) (cells_of g new)
+child_parted g content b q parent old new valid hq whole parts views = record {
+  at = λ i j k hi hj hk. parts.written i j k hi hj hk ∙ parts_are_views g content b q (cells_of g parent) valid hq whole views i j k hi hj hk;
+}
 
 -- an octant lies within the array
 pub octant_fits : (n g q : ℕ) → IsSize n g → Fits (cell_extents n g) (octant_box n g q)
@@ -185,3 +191,12 @@ small_sums n g numbers size small i j k hi hj hk =
     (subst (λ b. Within (2 ^ 40) (numbers (g + (2 * i + o % 2)) b (g + 2 * k + o / 4 % 2))) y (subst (λ c. Within (2 ^ 40) (numbers (g + (2 * i + o % 2)) (g + (2 * j + o / 2 % 2)) c)) z here))) in
     let all = sum_within 8 (2 ^ 40) (λ o. numbers (g + 2 * i + o % 2) (g + 2 * j + o / 2 % 2) (g + 2 * k + o / 4 % 2)) each in
     omega arith
+
+-- sums in the sizes of a world's blocks and in the grid's
+pub restricted_sized : (n e q : ℕ) (s : Shape) (child old new : List ℤ) → IsSized n e s → IsRestricted n e q child old new → IsRestricted s.n s.g q child old new
+restricted_sized n e q s child old new sized is =
+    subst (λ m. IsRestricted m s.g q child old new) (sym sized.cells) (subst (λ m. IsRestricted n m q child old new) (sym sized.guards) is)
+
+pub few_sized : (n e : ℕ) (s : Shape) (child : List ℤ) → IsSized n e s → SumsAreSmall s.n s.g (number_at (cell_extents s.n s.g) child) → SumsAreSmall n e (number_at (cell_extents n e) child)
+few_sized n e s child sized few =
+    subst (λ m. SumsAreSmall m e (number_at (cell_extents m e) child)) sized.cells (subst (λ m. SumsAreSmall s.n m (number_at (cell_extents s.n m) child)) sized.guards few)

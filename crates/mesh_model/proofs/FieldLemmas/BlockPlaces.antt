@@ -103,9 +103,15 @@ module _ (e : Extents) (b : Box) (fits : Fits e b) where
           ]
         ]
 
+  -- the row of a number by its places
+  row_is : (m j k : ℕ) → j ≡ m % b.along_y → k ≡ m / b.along_y → j + b.along_y * k ≡ m
+  row_is m j k y z =
+      let whole : m % b.along_y + b.along_y * (m / b.along_y) ≡ m = omega arith in
+      ap (λ u. u + b.along_y * k) y ∙ ap (λ u. m % b.along_y + b.along_y * u) z ∙ whole
+
   -- no row is written yet
   pub no_rows : (wanted : ℕ → ℕ → ℕ → ℤ) (old : List ℤ) → AreRowsWritten 0 e b wanted old old
-  no_rows wanted old = record { size = refl; written = λ i j k hi hj h. absurd (omega arith); stays = λ i j k hi hj hk off. refl }
+  no_rows wanted old = record { size = refl; written = λ i j k hi hj h. absurd (omega arith); waits = λ i j k hi hj hk h. refl; stays = λ i j k hi hj hk off. refl }
 
   -- one more row is written
   pub one_more_row : (m : ℕ) (wanted : ℕ → ℕ → ℕ → ℤ) (old now new : List ℤ) → m < b.along_y * b.along_z → AreRowsWritten m e b wanted old now →
@@ -123,12 +129,7 @@ module _ (e : Extents) (b : Box) (fits : Fits e b) where
         written = λ i j k hi hj h. elim (cases_lt (j + b.along_y * k) m) [
           | inl before ↦
               let hk : k < b.along_z = (let high : (j + b.along_y * k) / b.along_y < b.along_z = quotient_below (j + b.along_y * k) b.along_y b.along_z (omega arith) (omega arith) in subst (λ w. w < b.along_z) (above_digit j b.along_y k hj) high) in
-              let off : (t : ℕ) → t < b.along_x → b.x + i ≡ b.x + t → b.y + j ≡ b.y + y → b.z + k ≡ b.z + z → ⊥ = (λ t ht ex ey ez.
-              let jy : j ≡ y = omega arith in
-              let kz : k ≡ z = omega arith in
-              let whole : b.along_y * z + y ≡ m = omega arith in
-              let again : j + b.along_y * k ≡ y + b.along_y * z = ap (λ u. u + b.along_y * k) jy ∙ ap (λ u. y + b.along_y * u) kz in
-              omega arith) in
+              let off : (t : ℕ) → t < b.along_x → b.x + i ≡ b.x + t → b.y + j ≡ b.y + y → b.z + k ≡ b.z + z → ⊥ = (λ t ht ex ey ez. let again = row_is m j k (omega arith) (omega arith) in absurd (omega arith)) in
               off_row m within (λ t. wanted t y z) now new row (b.x + i) (b.y + j) (b.z + k) (omega arith) (omega arith) (omega arith) off ∙ so_far.written i j k hi hj before
           | inr last ↦
               let is : j + b.along_y * k ≡ m = omega arith in
@@ -138,10 +139,21 @@ module _ (e : Extents) (b : Box) (fits : Fits e b) where
               let at_y = subst (λ u. number_at e new (b.x + i) (b.y + u) (b.z + z) ≡ wanted i u z) jy there in
               subst (λ u. number_at e new (b.x + i) (b.y + j) (b.z + u) ≡ wanted i j u) kz at_y
         ];
+        waits = λ i j k hi hj hk h.
+            let off : (t : ℕ) → t < b.along_x → b.x + i ≡ b.x + t → b.y + j ≡ b.y + y → b.z + k ≡ b.z + z → ⊥ = (λ t ht ex ey ez. let again = row_is m j k (omega arith) (omega arith) in absurd (omega arith)) in
+            off_row m within (λ t. wanted t y z) now new row (b.x + i) (b.y + j) (b.z + k) (omega arith) (omega arith) (omega arith) off
+            ∙ so_far.waits i j k hi hj hk (omega arith);
         stays = λ i j k hi hj hk beyond.
             let off : (t : ℕ) → t < b.along_x → i ≡ b.x + t → j ≡ b.y + y → k ≡ b.z + z → ⊥ = (λ t ht ex ey ez. beyond (record { x = (omega arith, omega arith); y = (omega arith, omega arith); z = (omega arith, omega arith) })) in
             off_row m within (λ t. wanted t y z) now new row i j k hi hj hk off ∙ so_far.stays i j k hi hj hk beyond;
       }
+
+  -- the row that comes next is as it was
+  pub next_row : (m : ℕ) (wanted : ℕ → ℕ → ℕ → ℤ) (old now : List ℤ) → m < b.along_y * b.along_z → AreRowsWritten m e b wanted old now → (t : ℕ) → t < b.along_x →
+      number_at e now (b.x + t) (b.y + m % b.along_y) (b.z + m / b.along_y) ≡ number_at e old (b.x + t) (b.y + m % b.along_y) (b.z + m / b.along_y)
+  next_row m wanted old now within so_far t ht =
+      let is = row_is m (m % b.along_y) (m / b.along_y) refl refl in
+      so_far.waits t (m % b.along_y) (m / b.along_y) ht (row_y m within) (row_z m within) (omega arith)
 
   -- all rows are written
   pub all_rows : (wanted : ℕ → ℕ → ℕ → ℤ) (old new : List ℤ) → AreRowsWritten (b.along_y * b.along_z) e b wanted old new → IsWritten e b wanted old new

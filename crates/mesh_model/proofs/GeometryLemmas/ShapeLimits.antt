@@ -21,7 +21,7 @@ roots_some h X = h.rx
 roots_some h Y = h.ry
 roots_some h Z = h.rz
 
-roots_few : {s : Shape} → IsShape s → (a : Axis) → roots s a ≤ 8
+pub roots_few : {s : Shape} → IsShape s → (a : Axis) → roots s a ≤ 8
 roots_few h X = h.few_x
 roots_few h Y = h.few_y
 roots_few h Z = h.few_z

@@ -127,10 +127,12 @@ pub record IsRowWritten (start many : ℕ) (wanted : ℕ → ℤ) (old new : Lis
 abbrev pub row_of : Extents → Box → ℕ → ℕ
 row_of e b m = place_in e b.x (b.y + m % b.along_y) (b.z + m / b.along_y)
 
--- the first m rows of a box are written
+-- the first m rows of a box are written, and its others are as they were
 pub record AreRowsWritten (m : ℕ) (e : Extents) (b : Box) (wanted : ℕ → ℕ → ℕ → ℤ) (old new : List ℤ) : Type 0 where
   pub size : length new ≡ length old
   pub written : (i j k : ℕ) → i < b.along_x → j < b.along_y → j + b.along_y * k < m → number_at e new (b.x + i) (b.y + j) (b.z + k) ≡ wanted i j k
+  pub waits : (i j k : ℕ) → i < b.along_x → j < b.along_y → k < b.along_z → m ≤ j + b.along_y * k →
+      number_at e new (b.x + i) (b.y + j) (b.z + k) ≡ number_at e old (b.x + i) (b.y + j) (b.z + k)
   pub stays : (i j k : ℕ) → i < e.x → j < e.y → k < e.z → (IsInBox b i j k → ⊥) → number_at e new i j k ≡ number_at e old i j k
 
 -- ---- what an array holds of a field
@@ -155,10 +157,14 @@ pub record HoldsGuards (g : Grid) (content : CellAt → ℤ) (b : BlockAt) (numb
   pub at : (i j k : ℕ) → i < side g.shape.n g.shape.g → j < side g.shape.n g.shape.g → k < side g.shape.n g.shape.g →
       numbers i j k ≡ cell_view g content (cell_there g.shape b i j k)
 
--- the views of a field on faces, on the faces of the block normal to an axis, those on its sides among them
-pub record HoldsFaces (g : Grid) (field : FaceAt → ℤ) (a : Axis) (b : BlockAt) (numbers : ℕ → ℕ → ℕ → ℤ) : Type 0 where
+-- a field on faces, on the faces of the block normal to an axis, those on its sides among them, by their canonical names
+pub record HoldsFaceField (g : Grid) (field : FaceAt → ℤ) (a : Axis) (b : BlockAt) (numbers : ℕ → ℕ → ℕ → ℤ) : Type 0 where
   pub at : (i j k : ℕ) → i < longer_on a X g.shape.n → j < longer_on a Y g.shape.n → k < longer_on a Z g.shape.n →
-      numbers (g.shape.g + i) (g.shape.g + j) (g.shape.g + k) ≡ face_view g field (face_of a (canonical_on g.shape a (in_block g.shape.n b i j k)))
+      numbers (g.shape.g + i) (g.shape.g + j) (g.shape.g + k) ≡ field (face_of a (canonical_on g.shape a (in_block g.shape.n b i j k)))
+
+-- the views of such a field
+abbrev pub HoldsFaces : Grid → (FaceAt → ℤ) → Axis → BlockAt → (ℕ → ℕ → ℕ → ℤ) → Type 0
+HoldsFaces g field a b numbers = HoldsFaceField g (face_view g field) a b numbers
 
 pub record HoldsFaceGuards (g : Grid) (field : FaceAt → ℤ) (a : Axis) (b : BlockAt) (numbers : ℕ → ℕ → ℕ → ℤ) : Type 0 where
   pub at : (i j k : ℕ) → let e = face_extents g.shape.n g.shape.g a in i < e.x → j < e.y → k < e.z → numbers i j k ≡ face_view g field (face_there g.shape a b i j k)

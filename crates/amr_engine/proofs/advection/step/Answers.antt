@@ -1,42 +1,77 @@
-use Rattle.std.proofs.Common.{◌<◌, List, Ok, Err, sym, subst, arith}
-use Rattle.std.proofs.lemmas.Result.{err_from_is_err_and}
-use Rattle.std.specs.Prelude.{ℕ}
-use Rattle.amr_num.specs.declared.CellAt.{CellAt}
-use Rattle.block_tree.specs.GridOf.{grid_of}
-use Rattle.block_tree.specs.Numbered.{block_at}
-use Rattle.mesh_model.specs.Geometry.Places.{block_cells}
-use Rattle.amr_engine.specs.Contents.{IsBlock}
-use Rattle.amr_engine.specs.Stepping.{Steps}
-use Rattle.amr_engine.proofs.Numbered.{flat_by_node, node_count, node_is_block}
-use Rattle.amr_engine.proofs.Stepped.{all_done, one_more, stopped_at}
+use Rattle.std.proofs.Common.{◌≡◌, ◌^◌, ◌<◌, ◌≤◌, length, ◌+ℤ◌, true, None, Some, arith, ap, ap₂, sym, subst, ◌∙◌}
+use Rattle.std.specs.Prelude.{unsigned_abs}
+use Rattle.mesh_model.specs.Fields.Advect as stepping
+use Rattle.mesh_model.specs.Fields.Advect.{three}
+use Rattle.mesh_model.specs.Fields.Ranks.{Told}
+use Rattle.mesh_model.specs.Tree.Kinds.{Grid}
+use Rattle.amr_engine.specs.Stepping.{IsCalm, out_after}
+use Rattle.amr_engine.proofs.Advected.{out_is}
+use Rattle.amr_engine.proofs.Machine.{kept_128}
+use Rattle.amr_engine.proofs.Ranged.{leaves_in_range}
+use Rattle.amr_engine.proofs.StepMade.{are_fluxed, content_is, flown_is, flown_told, found_is, is_far, is_near, new_of, still_of}
 use Rattle.amr_engine.proofs.advection.step.Goals as goal
 
-pub step_block-requires-clause-block : goal.step_block-requires-clause-block
-step_block-requires-clause-block c =
-    let s = c.args.shape.now in
-    let g = grid_of c.args.tree.now in
-    let there : c.loop-node.node < node_count g = omega arith in
-    subst (IsBlock s) (sym c.at.ensures.value) (node_is_block s g c.requires.tree c.loop-node.node there)
+pub settle-requires : goal.settle-requires
+settle-requires g c =
+    let blown = c.blow.new.world in
+    let mesh = c.requires.mesh in (
+      omega arith,
+      (
+        c.blow.ensures.fit,
+        (
+          subst (λ (t : Told). c.args.v < t.counts.cells) (sym c.blow.ensures.told) c.requires.variable,
+          (
+            leaves_in_range blown mesh.mesh (c.blow.ensures.meshes mesh.mesh mesh.world) mesh.valid,
+            c.blow.ensures.small,
+          ),
+        ),
+      ),
+    )
 
-pub returns-in_err-step_block : goal.returns-in_err-step_block
-returns-in_err-step_block c =
-    let s = c.args.shape.now in
-    let g = grid_of c.args.tree.now in
-    let p = err_from_is_err_and c.from_residual.result c.from_residual.ensures.1 in
-    let cells : ℕ → List CellAt = (λ node. block_cells s.n (block_at g node)) in
-    let here = subst (λ b. Steps s c.args.contents.now c.args.speeds (block_cells s.n b) (Err c.in_err-step_block.field-0.0) c.loop-node.next c.step_block.new.next) c.at.ensures.value c.in_err-step_block.ensures in
-    rw (p.1, p.2) (subst (λ all. Steps s c.args.contents.now c.args.speeds all (Err c.in_err-step_block.field-0.0) c.args.next.now c.step_block.new.next) (sym (flat_by_node s g c.requires.tree (block_cells s.n))) (stopped_at s c.args.contents.now c.args.speeds cells c.loop-node.node (node_count g) _ c.args.next.now c.loop-node.next c.step_block.new.next (omega arith) c.loop-node.invariant here))
+pub returns-in-Err-clause-steps : goal.returns-in-Err-clause-steps
+returns-in-Err-clause-steps g c m valid of out_of =
+    let old = c.args.world.now in
+    let blown = c.blow.new.world in
+    let v = c.args.v in
+    let speeds = c.args.speeds in
+    let shape = c.shape.ensures.value ∙ ap (λ (h : Grid). h.shape) (c.tree.ensures ∙ of.grid) in
+    let slow : stepping.keeps_courant m.grid.shape (three speeds) ≡ true = ap (λ s. stepping.keeps_courant s (three speeds)) (sym shape) ∙ sym c.keeps_courant.ensures ∙ c.if-not-keeps_courant.false in
+    let stop = c.in-Err.ensures.stop (m.cells v) (three speeds) (are_fluxed old blown v speeds m of c.requires.variable c.blow.ensures.told c.blow.ensures.meshes c.blow.ensures.flows) in
+    (slow, found_is old blown v speeds m of c.requires.variable c.blow.ensures.told c.blow.ensures.meshes c.blow.ensures.flows (Some c.in-Err.above.cell) stop.first_is, stop.value_is ∙ content_is old blown v speeds m of c.requires.variable c.blow.ensures.told c.blow.ensures.meshes c.blow.ensures.flows c.in-Err.above.cell, still_of old blown v speeds m of c.requires.variable c.blow.ensures.told c.blow.ensures.meshes c.blow.ensures.flows c.settle.new.world c.settle.ensures.only)
 
-pub loop-node-preserved : goal.loop-node-preserved
-loop-node-preserved c =
-    let s = c.args.shape.now in
-    let cells : ℕ → List CellAt = (λ node. block_cells s.n (block_at (grid_of c.args.tree.now) node)) in
-    let here = subst (λ b. Steps s c.args.contents.now c.args.speeds (block_cells s.n b) (Ok tt) c.loop-node.next c.step_block.new.next) c.at.ensures.value c.in_ok-step_block.ensures in
-    one_more s c.args.contents.now c.args.speeds cells c.loop-node.node c.args.next.now c.loop-node.next c.step_block.new.next c.loop-node.invariant here
+pub returns-then-unsigned_abs-gt-MOST_OUT-clause-steps : goal.returns-then-unsigned_abs-gt-MOST_OUT-clause-steps
+returns-then-unsigned_abs-gt-MOST_OUT-clause-steps g c m valid of out_of =
+    let old = c.args.world.now in
+    let blown = c.blow.new.world in
+    let v = c.args.v in
+    let speeds = c.args.speeds in
+    let shape = c.shape.ensures.value ∙ ap (λ (h : Grid). h.shape) (c.tree.ensures ∙ of.grid) in
+    let slow : stepping.keeps_courant m.grid.shape (three speeds) ≡ true = ap (λ s. stepping.keeps_courant s (three speeds)) (sym shape) ∙ sym c.keeps_courant.ensures ∙ c.if-not-keeps_courant.false in
+    let fluxed = are_fluxed old blown v speeds m of c.requires.variable c.blow.ensures.told c.blow.ensures.meshes c.blow.ensures.flows in
+    let there : v < length m.names.cells = subst (λ k. v < k) of.cells c.requires.variable in
+    let calm : IsCalm m v speeds = record { courant = slow; none = found_is old blown v speeds m of c.requires.variable c.blow.ensures.told c.blow.ensures.meshes c.blow.ensures.flows None (c.in-Ok.ensures.none (m.cells v) (three speeds) fluxed) } in
+    let sum = kept_128 (kept_128 c.args.out +ℤ kept_128 c.in-Ok.flown) in
+    let out : sum ≡ out_after m v speeds =
+    flown_told c.args.out c.in-Ok.flown c.requires.out c.in-Ok.ensures.size
+    ∙ ap₂ (λ x y. x +ℤ y) out_of (c.in-Ok.ensures.flown (m.cells v) (three speeds) fluxed ∙ flown_is old blown v speeds m of c.requires.variable c.blow.ensures.told c.blow.ensures.meshes c.blow.ensures.flows) ∙ sym (out_is m v speeds valid there) in
+    let far : 2 ^ 100 < unsigned_abs sum = subst (λ k. 2 ^ 100 < k) c.unsigned_abs.ensures.value c.if-unsigned_abs-gt-MOST_OUT.true in
+    (calm, out, is_far (2 ^ 100) sum far, still_of old blown v speeds m of c.requires.variable c.blow.ensures.told c.blow.ensures.meshes c.blow.ensures.flows c.settle.new.world c.settle.ensures.only)
 
-pub returns : goal.returns
-returns c =
-    let s = c.args.shape.now in
-    let g = grid_of c.args.tree.now in
-    let cells : ℕ → List CellAt = (λ node. block_cells s.n (block_at g node)) in
-    subst (λ all. Steps s c.args.contents.now c.args.speeds all (Ok tt) c.args.next.now c.loop-node.next) (sym (flat_by_node s g c.requires.tree (block_cells s.n))) (all_done s c.args.contents.now c.args.speeds cells c.loop-node.node (node_count g) c.args.next.now c.loop-node.next (omega arith) c.loop-node.invariant)
+pub returns-clause-steps : goal.returns-clause-steps
+returns-clause-steps g c m valid of out_of =
+    let old = c.args.world.now in
+    let blown = c.blow.new.world in
+    let v = c.args.v in
+    let speeds = c.args.speeds in
+    let shape = c.shape.ensures.value ∙ ap (λ (h : Grid). h.shape) (c.tree.ensures ∙ of.grid) in
+    let slow : stepping.keeps_courant m.grid.shape (three speeds) ≡ true = ap (λ s. stepping.keeps_courant s (three speeds)) (sym shape) ∙ sym c.keeps_courant.ensures ∙ c.if-not-keeps_courant.false in
+    let fluxed = are_fluxed old blown v speeds m of c.requires.variable c.blow.ensures.told c.blow.ensures.meshes c.blow.ensures.flows in
+    let there : v < length m.names.cells = subst (λ k. v < k) of.cells c.requires.variable in
+    let calm : IsCalm m v speeds = record { courant = slow; none = found_is old blown v speeds m of c.requires.variable c.blow.ensures.told c.blow.ensures.meshes c.blow.ensures.flows None (c.in-Ok.ensures.none (m.cells v) (three speeds) fluxed) } in
+    let sum = kept_128 (kept_128 c.args.out +ℤ kept_128 c.in-Ok.flown) in
+    let out : sum ≡ out_after m v speeds =
+    flown_told c.args.out c.in-Ok.flown c.requires.out c.in-Ok.ensures.size
+    ∙ ap₂ (λ x y. x +ℤ y) out_of (c.in-Ok.ensures.flown (m.cells v) (three speeds) fluxed ∙ flown_is old blown v speeds m of c.requires.variable c.blow.ensures.told c.blow.ensures.meshes c.blow.ensures.flows) ∙ sym (out_is m v speeds valid there) in
+    let near : unsigned_abs sum ≤ 2 ^ 100 = subst (λ k. k ≤ 2 ^ 100) c.unsigned_abs.ensures.value c.if-unsigned_abs-gt-MOST_OUT.false in
+    let made = c.in-Ok.ensures.made (m.cells v) (three speeds) fluxed in
+    (calm, out, is_near (2 ^ 100) sum near, new_of old blown v speeds m of c.requires.variable c.blow.ensures.told c.blow.ensures.meshes c.blow.ensures.flows c.settle.new.world c.settle.ensures.only c.take_over.new.world c.take_over.ensures.only made c.take_over.ensures.holds)

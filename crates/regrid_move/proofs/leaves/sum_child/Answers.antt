@@ -1,18 +1,16 @@
-use Rattle.std.proofs.Common.{◌≡◌, ◌<◌, ◌⊎◌, ap, length, subst, sym, ◌∙◌, List, ℤ}
+use Rattle.std.proofs.Common.{◌≡◌, ◌<◌, ◌⊎◌, length, subst, sym, ◌∙◌, List, ℤ}
 use Rattle.mesh_model.specs.Fields.Ranks.{world_with}
-use Rattle.mesh_model.specs.declared.geometry.Shape.{Shape}
 use Rattle.mesh_model.specs.declared.fields.values.Var.TheVariants.{Cell}
 use Rattle.mesh_model.specs.Fields.Arrays.{Counts, var_length}
-use Rattle.mesh_model.specs.Geometry.Blocks.{child_block}
 use Rattle.mesh_model.specs.Fields.Octants.{SumsAreSmall, IsRestricted, OctantHolds, cells_of}
 use Rattle.mesh_model.specs.Fields.ArrayPlaces.{HoldsViews, cell_extents, number_at}
 use Rattle.mesh_model.specs.Tree.ValidGrid.{Valid}
-use Rattle.mesh_model.proofs.FieldLemmas.BlockOctants.{octant_summed, other_octant, small_sums}
+use Rattle.mesh_model.proofs.FieldLemmas.BlockOctants.{few_sized, octant_summed, other_octant, restricted_sized, small_sums}
 use Rattle.mesh_model.proofs.FieldLemmas.Worlds.{fit_after, has_array, only_of, written_in}
 use Rattle.block_tree.proofs.Facts.{known}
 use Rattle.block_tree.specs.Numbered.{block_at}
 use Rattle.rank_world.specs.Holding.{cell_array}
-use Rattle.regrid_move.proofs.Moved.{few_sized, octant_as, octant_of, restricted_sized}
+use Rattle.regrid_move.proofs.Moved.{octant_as, octant_of}
 use Rattle.regrid_move.proofs.leaves.sum_child.Goals as goal
 
 pub restrict_cells-requires-clause-few : goal.restrict_cells-requires-clause-few

@@ -5,7 +5,7 @@ use Rattle.mesh_model.specs.Fields.Arrays.{Counts}
 use Rattle.mesh_model.specs.Fields.Ranks.{Told}
 use Rattle.rank_world.specs.Holding.{LeavesHold}
 use Rattle.regrid_move.specs.Near.{LeavesMoved, all_stop, variable_stop}
-use Rattle.regrid_move.proofs.Aboves.{found_here, none_here}
+use Rattle.block_store.proofs.Aboves.{found_here, none_here}
 use Rattle.regrid_move.proofs.Steps.{leaves_stay, none_is}
 use Rattle.regrid_move.proofs.moving.move_all.Goals as goal
 

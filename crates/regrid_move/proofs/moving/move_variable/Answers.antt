@@ -1,12 +1,11 @@
-use Rattle.std.proofs.Common.{◌≡◌, ◌<◌, ◌+◌, ℕ, ℤ, None, length, sym, ap, subst, ◌∙◌, arith, inl, inr}
+use Rattle.std.proofs.Common.{◌≡◌, ◌<◌, None, length, sym, ap, subst, ◌∙◌, arith, inl, inr}
 use Rattle.std.proofs.lemmas.Bool.{cases_lt}
-use Rattle.amr_num.specs.declared.CellAt.{CellAt}
 use Rattle.mesh_model.specs.Tree.Order.{nodes}
 use Rattle.mesh_model.specs.Tree.Kinds.{Grid}
 use Rattle.mesh_model.specs.Fields.Ranks.{Told}
 use Rattle.rank_world.specs.Holding.{IsLeafNode}
 use Rattle.regrid_move.specs.Near.{NodeMoved, node_stop, stop_below}
-use Rattle.regrid_move.proofs.Aboves.{found_here, none_here}
+use Rattle.block_store.proofs.Aboves.{found_here, none_here}
 use Rattle.regrid_move.proofs.Steps.{cells_again, node_stays}
 use Rattle.regrid_move.proofs.moving.move_variable.Goals as goal
 

@@ -1,8 +1,8 @@
 use Rattle.std.proofs.Common.{◌≡◌, ◌<◌, ℕ, ℤ, None}
 use Rattle.amr_num.specs.declared.CellAt.{CellAt}
 use Rattle.mesh_model.specs.Fields.Ranks.{IsFit}
-use Rattle.rank_world.specs.Holding.{IsLeafNode, LeavesHold}
-use Rattle.regrid_move.specs.Near.{NodeMoved, OnlyCells, stop_below}
+use Rattle.rank_world.specs.Holding.{IsLeafNode, LeavesHold, OnlyCells}
+use Rattle.regrid_move.specs.Near.{NodeMoved, stop_below}
 use Rattle.regrid_move.proofs.moving.move_variable.Given as goal
 
 abbrev pub invariant-loop-node : goal.invariant-loop-node

@@ -1,53 +1,90 @@
-use Rattle.std.proofs.Common.{length, sym, ap, subst, ◌∙◌, refl}
-use Rattle.mesh_model.specs.declared.language.script.Command.TheVariants.{Advect}
-use Rattle.amr_engine.specs.Plain.{values_of}
-use Rattle.amr_engine.specs.Stopping.{MayStop, stopped_by}
-use Rattle.amr_engine.proofs.Acted.{allowed, hindered, is_step, kept_out_small, mesh_after_step, range_after, same_size, uniform_after}
-use Rattle.amr_engine.proofs.Vectors.{taken_over, whole_list}
+use Rattle.std.proofs.Common.{◌≡◌, ◌<◌, ◌^◌, Ok, Err, set, arith, sym, subst}
+use Rattle.mesh_model.specs.declared.language.script.Command.TheVariants as commands
+use Rattle.mesh_model.specs.Fields.Advect.{advect, three}
+use Rattle.mesh_model.specs.Fields.Valid.{ValidMesh}
+use Rattle.amr_engine.specs.EngineMesh.{IsLaidOut, mesh_of}
+use Rattle.amr_engine.specs.Stepping.{Steps}
+use Rattle.amr_engine.specs.Stopping.{Changes}
+use Rattle.amr_engine.proofs.Advanced.{advect_allowed, advect_is, advect_laid, advect_valid, hindered, read_is, read_small, ready, small_out}
+use Rattle.amr_engine.proofs.Machine.{wide}
+use Rattle.amr_engine.proofs.Made.{laid_after, of_now}
+use Rattle.amr_engine.proofs.ValidOut.{mesh_out}
 use Rattle.amr_engine.proofs.engine.Engine.advect.Goals as goal
 
-pub try_step-requires-clause-step : goal.try_step-requires-clause-step
-try_step-requires-clause-step c = let self = c.args.self.now in is_step self.declared self.contents.items self.outs.items c.args.var c.args.speeds c.index-contents.result.now c.deref.result.now c.index-out.result.now self.uniform self.limits self.range c.requires.variable c.index-contents.ensures c.deref.ensures.value c.index-out.ensures c.requires.speeds
-
-pub try_step-requires-clause-out : goal.try_step-requires-clause-out
-try_step-requires-clause-out c = let self = c.args.self.now in kept_out_small self.declared self.contents.items self.outs.items c.args.var c.args.speeds c.index-contents.result.now c.deref.result.now c.index-out.result.now self.uniform self.limits self.range c.requires.variable c.index-contents.ensures c.deref.ensures.value c.index-out.ensures c.requires.speeds
-
-pub copy_from_slice-requires : goal.copy_from_slice-requires
-copy_from_slice-requires c =
+pub step-requires : goal.step-requires
+step-requires g c =
     let self = c.args.self.now in
-    let next = c.try_step.new.next in
-    let made = c.deref-in-Ok.ensures.value ∙ taken_over self.next c.deref_mut.result.now next c.deref_mut.ensures.value c.in-Ok.ensures.size in
-    let size = ap length made ∙ c.in-Ok.ensures.size ∙ ap length c.deref_mut.ensures.value ∙ self.room in
-    same_size self.declared self.contents.items self.outs.items c.args.var c.args.speeds c.index-contents.result.now c.deref.result.now c.index-out.result.now self.uniform self.limits self.range c.requires.variable c.index-contents.ensures c.deref.ensures.value c.index-out.ensures c.requires.speeds c.index_mut.result.now c.deref-in-Ok.result.now c.index_mut.ensures.value size
+    let m = mesh_of self.names self.world self.outs.items self.marks in
+    let valid = mesh_out m self.valid in (
+      omega arith,
+      (
+        self.fit,
+        (
+          ready self.names self.world self.outs.items self.marks self.laid_out valid,
+          (
+            subst (λ k. c.args.var < k) (sym self.laid_out.cells) c.requires.variable,
+            (
+              c.requires.speeds,
+              read_small self.names self.world self.outs.items self.marks self.laid_out valid c.args.var c.requires.variable c.index-out.result.now c.index-out.ensures,
+            ),
+          ),
+        ),
+      ),
+    )
 
 pub invariant_of-self : goal.invariant_of-self
-invariant_of-self c =
+invariant_of-self g c =
     let self = c.args.self.now in
-    let next = c.try_step.new.next in
-    let over = taken_over self.next c.deref_mut.result.now next c.deref_mut.ensures.value c.in-Ok.ensures.size in
-    let made = c.copy_from_slice.ensures.items ∙ c.deref-in-Ok.ensures.value ∙ over in
-    let room = c.in-Ok.ensures.size ∙ ap length c.deref_mut.ensures.value ∙ self.room in
-    let whole = whole_list self.declared self.contents.items self.outs.items c.args.var c.index-contents.result.now c.deref.result.now self.uniform c.requires.variable c.index-contents.ensures c.deref.ensures.value in
+    let m = mesh_of self.names self.world self.outs.items self.marks in
+    let valid = mesh_out m self.valid in
+    let new = c.step.new.world in
+    let told = c.step.ensures.told in
+    let steps = c.step.ensures.steps m valid (of_now self.names self.world self.outs.items self.marks self.laid_out valid) (read_is self.names self.world self.outs.items self.marks self.laid_out valid c.args.var c.requires.variable c.index-out.result.now c.index-out.ensures) in
+    let done : Steps m c.args.var c.args.speeds new (Ok c.in-Ok.out) = subst (Steps m c.args.var c.args.speeds new) c.in-Ok.is steps in
+    let kept = wide c.in-Ok.out (2 ^ 100) (small_out self.names self.world self.outs.items self.marks self.laid_out valid c.args.var c.requires.variable c.args.speeds c.requires.speeds new told c.in-Ok.out done) (omega arith) in
+    let is = advect_is self.names self.world self.outs.items self.marks self.laid_out valid c.args.var c.requires.variable c.args.speeds c.requires.speeds new told c.in-Ok.out done in
     record {
-      uniform = uniform_after self.declared self.contents.items self.outs.items c.args.var c.args.speeds c.index-contents.result.now c.deref.result.now c.index-out.result.now self.uniform self.limits self.range c.requires.variable c.index-contents.ensures c.deref.ensures.value c.index-out.ensures c.requires.speeds c.deref_mut.result.now next c.in-Ok.out c.in-Ok.ensures.tries c.copy_from_slice.new.self made (room ∙ sym whole);
-      limits = self.limits;
-      range = range_after self.declared self.contents.items self.outs.items c.args.var c.args.speeds c.index-contents.result.now c.deref.result.now c.index-out.result.now self.uniform self.limits self.range c.requires.variable c.index-contents.ensures c.deref.ensures.value c.index-out.ensures c.requires.speeds c.deref_mut.result.now next c.in-Ok.out c.in-Ok.ensures.tries c.copy_from_slice.new.self made;
-      room = ap length over ∙ room;
-      shaped = self.shaped;
-      at_roots = self.at_roots;
+      fit = c.step.ensures.fit;
+      laid_out = subst (λ z. IsLaidOut self.names new (set self.outs.items c.args.var z) self.marks) (sym kept) (advect_laid self.names self.world self.outs.items self.marks self.laid_out valid c.args.var c.requires.variable c.args.speeds c.requires.speeds new told c.in-Ok.out done);
+      valid = ∣ subst (λ z. ValidMesh (mesh_of self.names new (set self.outs.items c.args.var z) self.marks)) (sym kept) (subst ValidMesh (sym is) (advect_valid self.names self.world self.outs.items self.marks self.laid_out valid c.args.var c.requires.variable c.args.speeds c.requires.speeds new told c.in-Ok.out done)) ∣₁;
+    }
+
+pub invariant_of-self-in-Err-1 : goal.invariant_of-self-in-Err-1
+invariant_of-self-in-Err-1 g c =
+    let self = c.args.self.now in
+    let m = mesh_of self.names self.world self.outs.items self.marks in
+    let valid = mesh_out m self.valid in
+    let new = c.step.new.world in
+    let told = c.step.ensures.told in
+    let steps = c.step.ensures.steps m valid (of_now self.names self.world self.outs.items self.marks self.laid_out valid) (read_is self.names self.world self.outs.items self.marks self.laid_out valid c.args.var c.requires.variable c.index-out.result.now c.index-out.ensures) in
+    let told_stop = hindered self.names self.world self.outs.items self.marks self.laid_out valid c.args.var c.requires.variable c.args.speeds c.requires.speeds new told c.in-Err.hindrance (subst (Steps m c.args.var c.args.speeds new) c.in-Err.is steps) in
+    record {
+      fit = c.step.ensures.fit;
+      laid_out = laid_after self.names self.world self.outs.items self.marks self.laid_out valid new told;
+      valid = ∣ subst ValidMesh (sym told_stop.1) valid ∣₁;
     }
 
 pub returns-in-Ok-clause-changes : goal.returns-in-Ok-clause-changes
-returns-in-Ok-clause-changes c =
+returns-in-Ok-clause-changes g c =
     let self = c.args.self.now in
-    let next = c.try_step.new.next in
-    let made = c.copy_from_slice.ensures.items ∙ c.deref-in-Ok.ensures.value ∙ taken_over self.next c.deref_mut.result.now next c.deref_mut.ensures.value c.in-Ok.ensures.size in (
-      allowed self.declared self.contents.items self.outs.items c.args.var c.args.speeds c.index-contents.result.now c.deref.result.now c.index-out.result.now self.uniform self.limits self.range c.requires.variable c.index-contents.ensures c.deref.ensures.value c.index-out.ensures c.requires.speeds c.deref_mut.result.now next c.in-Ok.out c.in-Ok.ensures.tries c.copy_from_slice.new.self made,
-      mesh_after_step self.declared self.contents.items self.outs.items c.args.var c.args.speeds c.index-contents.result.now c.deref.result.now c.index-out.result.now self.uniform self.limits self.range c.requires.variable c.index-contents.ensures c.deref.ensures.value c.index-out.ensures c.requires.speeds c.deref_mut.result.now next c.in-Ok.out c.in-Ok.ensures.tries c.copy_from_slice.new.self made,
+    let m = mesh_of self.names self.world self.outs.items self.marks in
+    let valid = mesh_out m self.valid in
+    let new = c.step.new.world in
+    let told = c.step.ensures.told in
+    let steps = c.step.ensures.steps m valid (of_now self.names self.world self.outs.items self.marks self.laid_out valid) (read_is self.names self.world self.outs.items self.marks self.laid_out valid c.args.var c.requires.variable c.index-out.result.now c.index-out.ensures) in
+    let done : Steps m c.args.var c.args.speeds new (Ok c.in-Ok.out) = subst (Steps m c.args.var c.args.speeds new) c.in-Ok.is steps in
+    let kept = wide c.in-Ok.out (2 ^ 100) (small_out self.names self.world self.outs.items self.marks self.laid_out valid c.args.var c.requires.variable c.args.speeds c.requires.speeds new told c.in-Ok.out done) (omega arith) in (
+      advect_allowed self.names self.world self.outs.items self.marks self.laid_out valid c.args.var c.requires.variable c.args.speeds c.requires.speeds new told c.in-Ok.out done,
+      subst (λ z. mesh_of self.names new (set self.outs.items c.args.var z) self.marks ≡ advect m c.args.var (three c.args.speeds)) (sym kept) (advect_is self.names self.world self.outs.items self.marks self.laid_out valid c.args.var c.requires.variable c.args.speeds c.requires.speeds new told c.in-Ok.out done),
     )
 
 pub returns-in-Err-clause-changes : goal.returns-in-Err-clause-changes
-returns-in-Err-clause-changes c =
+returns-in-Err-clause-changes g c =
     let self = c.args.self.now in
-    let refused = hindered self.declared self.contents.items self.outs.items c.args.var c.args.speeds c.index-contents.result.now c.deref.result.now c.index-out.result.now self.uniform self.limits self.range c.requires.variable c.index-contents.ensures c.deref.ensures.value c.index-out.ensures c.requires.speeds c.deref_mut.result.now c.try_step.new.next c.in-Err.hindrance c.in-Err.ensures.tries in
-    (subst (λ cause. MayStop (stopped_by cause) (values_of self) (Advect c.args.var c.args.speeds)) (sym c.of_advect.ensures) refused, refl)
+    let m = mesh_of self.names self.world self.outs.items self.marks in
+    let valid = mesh_out m self.valid in
+    let new = c.step.new.world in
+    let told = c.step.ensures.told in
+    let steps = c.step.ensures.steps m valid (of_now self.names self.world self.outs.items self.marks self.laid_out valid) (read_is self.names self.world self.outs.items self.marks self.laid_out valid c.args.var c.requires.variable c.index-out.result.now c.index-out.ensures) in
+    let told_stop = hindered self.names self.world self.outs.items self.marks self.laid_out valid c.args.var c.requires.variable c.args.speeds c.requires.speeds new told c.in-Err.hindrance (subst (Steps m c.args.var c.args.speeds new) c.in-Err.is steps) in
+    subst (λ cause. Changes (Err cause) m (commands.Advect c.args.var c.args.speeds) (mesh_of self.names new self.outs.items self.marks)) (sym c.of_advect.ensures) told_stop

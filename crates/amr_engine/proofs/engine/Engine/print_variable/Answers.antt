@@ -1,32 +1,24 @@
-use Rattle.std.proofs.Common.{◌<◌, length, subst, sym, ◌∙◌, arith}
-use Rattle.block_tree.specs.GridOf.{grid_of}
+use Rattle.std.proofs.Common.{◌<◌, length, sym, subst, ◌∙◌}
 use Rattle.mesh_model.specs.Language.Commands.{IsGroup}
 use Rattle.mesh_model.specs.Run.Texts.{variable_text}
 use Rattle.amr_report.specs.Printing.{Prints}
-use Rattle.amr_engine.specs.Plain.{values_of}
-use Rattle.amr_engine.proofs.Shown.{grid_shown, name_shown, views_shown}
-use Rattle.amr_engine.proofs.Vectors.{contents_are, contents_in, name_at, whole_list}
+use Rattle.amr_engine.specs.EngineMesh.{mesh_of}
+use Rattle.amr_engine.proofs.Made.{grid_is, name_is, of_now}
+use Rattle.amr_engine.proofs.Named.{name_at}
+use Rattle.amr_engine.proofs.Printed.{views_there}
+use Rattle.amr_engine.proofs.ValidOut.{mesh_out}
 use Rattle.amr_engine.proofs.engine.Engine.print_variable.Goals as goal
-
-pub invariant_of-values : goal.invariant_of-values
-invariant_of-values g c =
-    let self = c.args.self.now in
-    let declared : c.in-Cell.var < length self.declared.names.cells = subst (IsGroup self.declared.names) c.in-Cell.is c.requires in
-    record {
-      roots = self.uniform.shape;
-      start = c.tree-tree.ensures ∙ self.at_roots (omega (arith, declared));
-      whole = whole_list self.declared self.contents.items self.outs.items c.in-Cell.var c.index.result.now c.deref.result.now self.uniform declared c.index.ensures c.deref.ensures.value;
-    }
 
 pub returns : goal.returns
 returns g c =
     let self = c.args.self.now in
-    let d = self.declared in
     let var = c.in-Cell.var in
-    let declared : var < length d.names.cells = subst (IsGroup d.names) c.in-Cell.is c.requires in
-    let some : 0 < length d.names.cells = omega (arith, declared) in
-    let grid = grid_shown d (contents_in self.contents.items) self.outs.items ∙ sym (c.tree-tree.ensures ∙ self.at_roots some) in
-    let name = name_shown d (contents_in self.contents.items) self.outs.items var ∙ sym (name_at d.names.cells var c.cell.result.now c.cell.ensures.name) in
-    let list = contents_are d self.contents.items self.outs.items var c.index.result.now c.deref.result.now self.uniform declared c.index.ensures c.deref.ensures.value in
-    let views = views_shown d (contents_in self.contents.items) self.outs.items var c.deref.result.now (grid_of c.tree-tree.result.now) self.uniform.shape list (c.tree-tree.ensures ∙ self.at_roots some) in
-    subst (λ group. Prints c.print_var.result (g.K.Sink.taken c.args.sink.now) (variable_text (values_of self) group) (g.K.Sink.taken c.print_var.new.sink) (g.K.Sink.faults c.args.sink.now) (g.K.Sink.faults c.print_var.new.sink)) (sym c.in-Cell.is) (c.print_var.ensures (values_of self) grid name views)
+    let m = mesh_of self.names self.world self.outs.items self.marks in
+    let valid = mesh_out m self.valid in
+    let declared : var < length self.names.cells = subst (IsGroup self.names) c.in-Cell.is c.requires in
+    let there : var < self.world.told.counts.cells = subst (λ k. var < k) (sym self.laid_out.cells) declared in
+    let grid = grid_is self.names self.world self.outs.items self.marks self.laid_out valid ∙ sym c.tree.ensures in
+    let name = name_is self.names self.world self.outs.items self.marks self.laid_out valid var ∙ sym (name_at self.names.cells var c.cell.result.now c.cell.ensures.name) in
+    let views = views_there g.row.N g.row.G self.world self.fit var there m (of_now self.names self.world self.outs.items self.marks self.laid_out valid) valid in
+    subst (λ group. Prints c.print_var.result (g.K.Sink.taken c.args.sink.now) (variable_text m group) (g.K.Sink.taken c.print_var.new.sink) (g.K.Sink.faults c.args.sink.now) (g.K.Sink.faults c.print_var.new.sink)) (sym c.in-Cell.is)
+    (c.print_var.ensures m grid name views)

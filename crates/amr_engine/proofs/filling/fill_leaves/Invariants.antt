@@ -1,0 +1,11 @@
+use Rattle.mesh_model.specs.Fields.Ranks.{IsFit}
+use Rattle.rank_world.specs.Holding.{OnlyCells}
+use Rattle.amr_engine.proofs.Filled.{AreFilledBelow}
+use Rattle.amr_engine.proofs.filling.fill_leaves.Given as goal
+
+abbrev pub invariant-loop-node : goal.invariant-loop-node
+invariant-loop-node g l = record {
+  only : OnlyCells l.initial.world l.world l.v;
+  fit : IsFit g.row.N g.row.G l.world;
+  filled : AreFilledBelow l.node l.initial.world l.world l.v l.fill;
+}

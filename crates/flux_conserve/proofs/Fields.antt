@@ -1,0 +1,222 @@
+-- The numbers of faces by places, and fields on faces by their names.
+use Rattle.std.proofs.Common.{◌≡◌, ℕ, suc, ◌+◌, ◌-◌, ◌*◌, ◌/◌, ◌%◌, ◌<◌, ◌≤◌, ◌≢◌, ◌⊎◌, Bool, true, false, not, Option, Some, None, ℤ, refl, sym, ap, subst, ◌∙◌, arith, inl, inr, eq-eqb, ne_eqb}
+use Rattle.std.specs.Prelude.{if◌then◌else◌}
+use Rattle.std.proofs.lemmas.Bool.{cases_order}
+use Rattle.amr_num.specs.Numbers.{sum_below}
+use Rattle.amr_num.proofs.Parts.{sum_below_same}
+use Rattle.amr_num.specs.declared.Axis.{Axis}
+use Rattle.amr_num.specs.declared.Axis.TheVariants.{X, Y, Z}
+use Rattle.amr_num.specs.declared.BlockAt.{BlockAt}
+use Rattle.amr_num.specs.declared.CellAt.{CellAt}
+use Rattle.amr_num.specs.declared.FaceAt.{FaceAt}
+use Rattle.mesh_model.specs.declared.geometry.Shape.{Shape}
+use Rattle.mesh_model.specs.Fields.Advect.{Speeds, flux, leaf_flux}
+use Rattle.mesh_model.specs.Fields.Views.{face_down}
+use Rattle.mesh_model.specs.Geometry.Blocks.{InDomain}
+use Rattle.mesh_model.specs.Geometry.Coordinates.{face_of, sub_face}
+use Rattle.mesh_model.specs.Geometry.Canonical.{canonical_on}
+use Rattle.mesh_model.specs.Geometry.Places.{in_block, longer_on}
+use Rattle.mesh_model.specs.Tree.Kinds.{Grid, is_leaf_block, is_split_block, is_split_face}
+use Rattle.mesh_model.specs.Tree.ValidGrid.{Valid}
+use Rattle.mesh_model.proofs.FieldLemmas.CellKinds.{wide_of}
+use Rattle.mesh_model.proofs.FieldLemmas.FaceSums as faces
+use Rattle.mesh_model.proofs.FieldLemmas.ValidGrid.{deep_face, tree}
+use Rattle.mesh_model.proofs.GeometryLemmas.Halves.{pair_inside, rest_below}
+use Rattle.mesh_model.proofs.GeometryLemmas.ShapeLimits.{cells_some}
+use Rattle.mesh_model.proofs.TreeLemmas.Tests.{refuted}
+use Rattle.mesh_model.proofs.TreeLemmas.Tiling.{leaf_says}
+use Rattle.block_tree.proofs.Leaves.{split_leaf}
+use Rattle.flux_conserve.specs.Jumps.{BlockFaces, IsCalm, IsFacePlace, child_beside, corrected, face_name, finer_beside, four_finer, jumped, or_four, quarter_at, quarter_sum, side_position, spot}
+use Rattle.flux_conserve.proofs.Sides.{calm_child, calm_face, child_leaf, finer_name, split_face}
+
+-- ---- places by three numbers, and by one along an axis and two across it
+
+pub by_spot : (P : ℕ → ℕ → ℕ → Type 0) (a : Axis) (n : ℕ) → ((p s t : ℕ) → IsFacePlace n p s t → P (spot a p s t).x (spot a p s t).y (spot a p s t).z) →
+    (i j k : ℕ) → i < longer_on a X n → j < longer_on a Y n → k < longer_on a Z n → P i j k
+by_spot P X n each i j k hi hj hk = each i j k (record { along = omega arith; first = hj; second = hk })
+by_spot P Y n each i j k hi hj hk = each j i k (record { along = omega arith; first = hi; second = hk })
+by_spot P Z n each i j k hi hj hk = each k i j (record { along = omega arith; first = hi; second = hj })
+
+pub at_spot : (P : ℕ → ℕ → ℕ → Type 0) (a : Axis) (n : ℕ) → ((i j k : ℕ) → i < longer_on a X n → j < longer_on a Y n → k < longer_on a Z n → P i j k) →
+    (p s t : ℕ) → IsFacePlace n p s t → P (spot a p s t).x (spot a p s t).y (spot a p s t).z
+at_spot P X n each p s t place = each p s t (omega arith) place.first place.second
+at_spot P Y n each p s t place = each s p t place.first (omega arith) place.second
+at_spot P Z n each p s t place = each s t p place.first place.second (omega arith)
+
+-- ---- faces at a jump of level, and others
+
+pub same_side : (n : ℕ) (u v : Bool) → 0 < n → side_position n u ≡ side_position n v → u ≡ v
+same_side n false false some is = refl
+same_side n false true some is = absurd (omega arith)
+same_side n true false some is = absurd (omega arith)
+same_side n true true some is = refl
+
+pub some_or_none : {A : Type 0} (o : Option A) → (o ≡ None) ⊎ ((d : A) × (o ≡ Some d))
+some_or_none None = inl refl
+some_or_none (Some d) = inr (d, refl)
+
+-- finer leaves stand at a face, on a side of its block
+pub record IsJump (g : Grid) (a : Axis) (b : BlockAt) (p : ℕ) : Type 0 where
+  pub high : Bool
+  pub finer : BlockAt
+  pub place : p ≡ side_position g.shape.n high
+  pub there : finer_beside g a high b ≡ Some finer
+
+module _ (g : Grid) (a : Axis) (b : BlockAt) (some : 0 < g.shape.n) where
+  pub calm_at : (high : Bool) → finer_beside g a high b ≡ None → IsCalm g a b (side_position g.shape.n high)
+  calm_at high none other is = subst (λ h. finer_beside g a h b ≡ None) (same_side g.shape.n high other some is) none
+
+  side_kind : (p : ℕ) (high : Bool) → p ≡ side_position g.shape.n high → IsCalm g a b p ⊎ IsJump g a b p
+  side_kind p high is = elim (some_or_none (finer_beside g a high b)) [
+    | inl none ↦ inl (subst (IsCalm g a b) (sym is) (calm_at high none))
+    | inr (d, there) ↦ inr (record { high = high; finer = d; place = is; there = there })
+  ]
+
+  inner_calm : (p : ℕ) → p ≢ 0 → p ≢ g.shape.n → IsCalm g a b p
+  inner_calm p low high false is = absurd (low is)
+  inner_calm p low high true is = absurd (high is)
+
+  pub face_kind : (p : ℕ) → IsCalm g a b p ⊎ IsJump g a b p
+  face_kind p = elim (cases_order p 0) [
+    | inl low ↦ side_kind p false low
+    | inr off_low ↦ elim (cases_order p g.shape.n) [
+      | inl high ↦ side_kind p true high
+      | inr off_high ↦ inl (inner_calm p (λ is. absurd (elim off_low [ inl h ↦ omega arith | inr h ↦ omega arith ])) (λ is. absurd (elim off_high [ inl h ↦ omega arith | inr h ↦ omega arith ])))
+    ]
+  ]
+
+  -- ---- the corrected numbers
+
+  module _ (numbers : BlockFaces) (s t : ℕ) where
+    corrected_side : (high : Bool) → corrected g numbers a b (side_position g.shape.n high) s t ≡ or_four g.shape.n numbers a high b s t (finer_beside g a high b)
+    unfolding corrected
+    corrected_side false = refl
+    corrected_side true = rw (ne_eqb g.shape.n 0 (λ is. absurd (omega arith)), eq-eqb g.shape.n g.shape.n refl) refl
+
+    corrected_inner : (p : ℕ) → p ≢ 0 → p ≢ g.shape.n → corrected g numbers a b p s t ≡ numbers a b p s t
+    unfolding corrected
+    corrected_inner p low high = rw (ne_eqb p 0 low, ne_eqb p g.shape.n high) refl
+
+    pub corrected_jump : (p : ℕ) (jump : IsJump g a b p) → corrected g numbers a b p s t ≡ four_finer g.shape.n numbers a jump.high jump.finer s t
+    corrected_jump p jump = ap (λ q. corrected g numbers a b q s t) jump.place ∙ corrected_side jump.high ∙ ap (or_four g.shape.n numbers a jump.high b s t) jump.there
+
+    calm_side : (p : ℕ) (high : Bool) → p ≡ side_position g.shape.n high → IsCalm g a b p → corrected g numbers a b p s t ≡ numbers a b p s t
+    calm_side p high is calm =
+        ap (λ q. corrected g numbers a b q s t) is ∙ corrected_side high ∙ ap (or_four g.shape.n numbers a high b s t) (calm high is) ∙ ap (λ q. numbers a b q s t) (sym is)
+
+    pub corrected_calm : (p : ℕ) → IsCalm g a b p → corrected g numbers a b p s t ≡ numbers a b p s t
+    corrected_calm p calm = elim (cases_order p 0) [
+      | inl low ↦ calm_side p false low calm
+      | inr off_low ↦ elim (cases_order p g.shape.n) [
+        | inl high ↦ calm_side p true high calm
+        | inr off_high ↦ corrected_inner p (λ is. absurd (elim off_low [ inl h ↦ omega arith | inr h ↦ omega arith ])) (λ is. absurd (elim off_high [ inl h ↦ omega arith | inr h ↦ omega arith ]))
+      ]
+    ]
+
+-- ---- fields
+
+-- a field by its names
+abbrev pub named : Shape → (FaceAt → ℤ) → BlockFaces
+named s field a b p q r = field (face_name s a b p q r)
+
+module _ (g : Grid) (valid : Valid g) (a : Axis) (b : BlockAt) (leaf : is_leaf_block g b ≡ true) where
+  some : 0 < g.shape.n
+  some = cells_some valid.shape
+
+  inside : InDomain g.shape b
+  inside = valid.tiles.inside b (leaf_says g b leaf)
+
+  whole : is_split_block g b ≡ false
+  whole = refuted _ (λ split. let none = split_leaf g valid b split in cc)
+
+  module _ (p s t : ℕ) (place : IsFacePlace g.shape.n p s t) where
+    abbrev face : FaceAt
+    face = face_name g.shape a b p s t
+
+    pub calm_is : IsCalm g a b p → is_split_face g face ≡ false
+    calm_is calm = calm_face g a b some inside whole s t place.first place.second p place.along calm
+
+    jump_is : IsJump g a b p → is_split_face g face ≡ true
+    jump_is jump = ap (λ q. is_split_face g (face_name g.shape a b q s t)) jump.place ∙ split_face g a b some inside whole s t place.first place.second jump.high jump.finer jump.there
+
+    finer_is : (jump : IsJump g a b p) (r : ℕ) →
+        face_name g.shape a (child_beside a jump.high (quarter_at g.shape.n s t) jump.finer) (side_position g.shape.n (not jump.high)) (2 * (s % (g.shape.n / 2)) + r % 2) (2 * (t % (g.shape.n / 2)) + r / 2 % 2)
+        ≡ sub_face face r
+    finer_is jump r =
+        finer_name g a jump.high b jump.finer valid.shape.cells some inside jump.there s t r place.first place.second ∙ ap (λ q. sub_face (face_name g.shape a b q s t) r) (sym jump.place)
+
+    -- the corrected numbers of a field are those of the jumped field
+    pub field_corrected : (field : FaceAt → ℤ) → corrected g (named g.shape field) a b p s t ≡ jumped g field face
+    unfolding quarter_sum
+    field_corrected field = elim (face_kind g a b some p) [
+      | inl calm ↦ corrected_calm g a b some (named g.shape field) s t p calm ∙ ap (λ (u : Bool). if u then sum_below 4 (λ r. field (sub_face face r)) else field face) (sym (calm_is calm))
+      | inr jump ↦
+          corrected_jump g a b some (named g.shape field) s t p jump
+          ∙ sum_below_same 4 (λ r. field (face_name g.shape a (child_beside a jump.high (quarter_at g.shape.n s t) jump.finer) (side_position g.shape.n (not jump.high)) (2 * (s % (g.shape.n / 2)) + r % 2) (2 * (t % (g.shape.n / 2)) + r / 2 % 2)))
+          (λ r. field (sub_face face r)) (λ r h. ap field (finer_is jump r))
+          ∙ ap (λ (u : Bool). if u then sum_below 4 (λ r. field (sub_face face r)) else field face) (sym (jump_is jump))
+    ]
+
+-- ---- the finer faces at a jump
+
+pub side_within : (n : ℕ) (high : Bool) → side_position n high ≤ n
+side_within n false = omega arith
+side_within n true = omega arith
+
+finer_place : (n s t r : ℕ) (high : Bool) → (n ≡ 4) ⊎ (n ≡ 8) → IsFacePlace n (side_position n high) (2 * (s % (n / 2)) + r % 2) (2 * (t % (n / 2)) + r / 2 % 2)
+finer_place n s t r high size = record {
+  along = side_within n high;
+  first = pair_inside n (s % (n / 2)) (r % 2) size (rest_below n s size) (omega arith);
+  second = pair_inside n (t % (n / 2)) (r / 2 % 2) size (rest_below n t size) (omega arith);
+}
+
+module _ (g : Grid) (valid : Valid g) (a : Axis) (high : Bool) (b d : BlockAt) (leaf : is_leaf_block g b ≡ true) (finer : finer_beside g a high b ≡ Some d) (q : ℕ) where
+  -- the children of the block beside that stand at the leaf are leaves, and at the faces there stands nothing finer
+  pub near_leaf : is_leaf_block g (child_beside a high q d) ≡ true
+  near_leaf = child_leaf g valid a high b d (inside g valid a b leaf) (whole g valid a b leaf) finer q
+
+  pub near_calm : IsCalm g a (child_beside a high q d) (side_position g.shape.n (not high))
+  near_calm = calm_at g a (child_beside a high q d) (cells_some valid.shape) (not high) (calm_child g valid a high b d (inside g valid a b leaf) (whole g valid a b leaf) finer q)
+
+module _ (g : Grid) (valid : Valid g) (content : CellAt → ℤ) (n : Speeds) where
+  flux_whole : (f : FaceAt) → is_split_face g f ≡ false → flux g content n f ≡ leaf_flux g content n f
+  flux_whole f whole = faces.down_whole g (tree g valid) (wide_of g.shape valid.shape) (leaf_flux g content n) (10 - f.level) f whole
+
+  flux_split : (f : FaceAt) → is_split_face g f ≡ true → ((r : ℕ) → r < 4 → is_split_face g (sub_face f r) ≡ false) → flux g content n f ≡ sum_below 4 (λ r. leaf_flux g content n (sub_face f r))
+  flux_split f split calm =
+      let wide = wide_of g.shape valid.shape in
+      let deep = deep_face g valid f split in
+      let one : 10 - f.level ≡ suc (9 - f.level) = omega arith in
+      ap (λ d. face_down g (leaf_flux g content n) d f) one ∙ faces.down_split g (tree g valid) wide (leaf_flux g content n) (9 - f.level) f split
+      ∙ sum_below_same 4 (λ r. face_down g (leaf_flux g content n) (9 - f.level) (sub_face f r)) (λ r. leaf_flux g content n (sub_face f r))
+      (λ r h. faces.down_whole g (tree g valid) wide (leaf_flux g content n) (9 - f.level) (sub_face f r) (calm r h))
+
+  module _ (a : Axis) (b : BlockAt) (leaf : is_leaf_block g b ≡ true) (p s t : ℕ) (place : IsFacePlace g.shape.n p s t) where
+    sub_calm : (jump : IsJump g a b p) (r : ℕ) → is_split_face g (sub_face (face g valid a b leaf p s t place) r) ≡ false
+    sub_calm jump r =
+        let q = quarter_at g.shape.n s t in
+        ap (is_split_face g) (sym (finer_is g valid a b leaf p s t place jump r))
+        ∙ calm_is g valid a (child_beside a jump.high q jump.finer) (near_leaf g valid a jump.high b jump.finer leaf jump.there q) (side_position g.shape.n (not jump.high)) _ _
+        (finer_place g.shape.n s t r (not jump.high) valid.shape.cells) (near_calm g valid a jump.high b jump.finer leaf jump.there q)
+
+    -- the flux through a face of a leaf is what its own step gives, jumped
+    pub flux_jumped : flux g content n (face_name g.shape a b p s t) ≡ jumped g (leaf_flux g content n) (face_name g.shape a b p s t)
+    flux_jumped =
+        let f = face_name g.shape a b p s t in
+        let own = leaf_flux g content n in
+        elim (face_kind g a b (cells_some valid.shape) p) [
+          | inl calm ↦ (
+              let whole = calm_is g valid a b leaf p s t place calm in
+              flux_whole f whole ∙ ap (λ (u : Bool). if u then sum_below 4 (λ r. own (sub_face f r)) else own f) (sym whole))
+          | inr jump ↦ (
+              let split = jump_is g valid a b leaf p s t place jump in
+              flux_split f split (λ r h. sub_calm jump r) ∙ ap (λ (u : Bool). if u then sum_below 4 (λ r. own (sub_face f r)) else own f) (sym split))
+        ]
+
+pub fluxes_jumped : (g : Grid) (content : CellAt → ℤ) (n : Speeds) (b : BlockAt) (a : Axis) → Valid g → is_leaf_block g b ≡ true → (i j k : ℕ) →
+    i < longer_on a X g.shape.n → j < longer_on a Y g.shape.n → k < longer_on a Z g.shape.n →
+    let f = face_of a (canonical_on g.shape a (in_block g.shape.n b i j k)) in flux g content n f ≡ jumped g (leaf_flux g content n) f
+unfolding face_name
+fluxes_jumped g content n b a valid leaf =
+    by_spot (λ i j k. let f = face_of a (canonical_on g.shape a (in_block g.shape.n b i j k)) in flux g content n f ≡ jumped g (leaf_flux g content n) f) a g.shape.n
+    (λ p s t place. flux_jumped g valid content n a b leaf p s t place)

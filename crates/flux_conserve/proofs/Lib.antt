@@ -1,0 +1,8 @@
+pub mod FacePlaces
+pub mod Finer
+pub mod Axes
+pub mod Sides
+pub mod Fields
+pub mod Worlds
+pub mod Taking
+pub mod Puts

@@ -1,0 +1,7 @@
+use Rattle.std.proofs.Common.{rules}
+use Rattle.flux_conserve.specs.Work.{face_at}
+use Rattle.flux_conserve.proofs.faces.face.Goals as goal
+
+pub returns : goal.returns
+unfolding face_at
+returns c = search rules

@@ -1,0 +1,4 @@
+pub mod Jumps
+pub mod Work
+pub mod Sums
+pub mod Laws

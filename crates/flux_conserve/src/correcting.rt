@@ -1,0 +1,200 @@
+//! The work faces of leaves at jumps of level.
+
+ghost use Rattle.amr_num.specs.Numbers.{Within, at};
+ghost use Rattle.amr_num.specs.declared.Axis.{Axis as Axes};
+ghost use Rattle.amr_num.specs.declared.FaceAt.{FaceAt};
+ghost use Rattle.block_tree.specs.Numbered.{IsNode, block_at};
+ghost use Rattle.flux_conserve.specs.Jumps.{BlockFaces, corrected, four_finer, jumped, octant_on, quarter_sum, side_half, side_position};
+ghost use Rattle.flux_conserve.specs.Sums.{four_at, quarter_size, sum_place};
+ghost use Rattle.flux_conserve.specs.Work.{AreSummed, CalmHas, IsFinerNode, IsTame, NearHas, NearWithin, OnlyWorkFaces, SideHas, SideTaken, WorkHas, WorkHolds, WorkWithin, work_array, work_at};
+ghost use Rattle.mesh_model.specs.Fields.ArrayPlaces.{IsRowWritten};
+ghost use Rattle.mesh_model.specs.Fields.Ranks.{IsFit};
+ghost use Rattle.mesh_model.specs.Tree.Kinds.{is_leaf_block};
+ghost use Rattle.rank_world.specs.Holding.{IsLeafNode};
+ghost use Rattle.std.specs.Prelude.{◌≡◌, ◌+◌, ◌*◌, ◌/◌, ◌%◌, ◌^◌, ◌<◌, ◌≤◌, ℕ, ℤ, Bool, not, false, length};
+
+use crate::beside::finer_beside;
+use crate::faces::Faces;
+use crate::sums::{set_side, sum_side};
+use amr_num::Axis;
+use mesh_model::Var;
+use rank_world::World;
+
+/// The position of the faces at the low or the high side of a block.
+fn position(n: usize, high: bool) -> usize
+    ensures { result ≡ side_position n high }
+{
+    if high { n } else { 0 }
+}
+
+/// The octant of a block that is the quarter `quarter` of its low or high half on an axis. Quarters are j + 2 k, i + 2 k
+/// and i + 2 j for the axes x, y and z.
+fn octant_in(axis: Axis, high: bool, quarter: u32) -> u32
+    requires { quarter < 4 }
+    ensures value { result ≡ octant_on axis (side_half high) quarter }
+    ensures octant { result < 8 }
+{
+    let half = u32::from(high);
+    let first = quarter % 2;
+    let second = quarter / 2 % 2;
+    match axis {
+        Axis::X => half + 2 * first + 4 * second,
+        Axis::Y => first + 2 * half + 4 * second,
+        Axis::Z => first + 2 * second + 4 * half,
+    }
+}
+
+/// Puts the sums of a finer leaf's faces at its side towards the coarser one, which is opposite to the side `high` of
+/// that, among the sums of the four quarters.
+fn sum_child<const N: usize, const G: usize>(
+    world: &World<N, G>,
+    child: u32,
+    axis: Axis,
+    high: bool,
+    quarter: usize,
+    sums: &mut [i64],
+)
+    requires fit { IsFit N G world.now }
+    requires child { IsNode world.now.told.grid child }
+    requires small { (s t : ℕ) → s < world.now.told.grid.shape.n → t < world.now.told.grid.shape.n
+        → Within (2 ^ 56) (work_at world.now axis child (side_position world.now.told.grid.shape.n (not high)) s t) }
+    requires quarter { quarter < 4 }
+    requires room { N * N ≤ length sums.old }
+    ensures row { let h = N / 2 in
+        IsRowWritten (quarter_size N * quarter) (quarter_size N) (λ m. four_at N G axis (work_array world.now axis child) (side_position N (not high)) (m % h) (m / h)) sums.old sums.new }
+    ensures within { (m : ℕ) → m < quarter_size N → Within (2 ^ 58) (at sums.new (quarter_size N * quarter + m)) }
+{
+    let faces = Faces { n: N, g: G, axis };
+    let values = world.values(Var::FaceWork(axis), child);
+    let half = N / 2;
+    sum_side(
+        faces,
+        values,
+        position(N, !high),
+        half * half * quarter,
+        sums,
+    );
+}
+
+/// Sums the faces of the finer leaves at the side `high` of a coarser one, by quarters of the side.
+fn gather<const N: usize, const G: usize>(
+    world: &World<N, G>,
+    beside: u32,
+    axis: Axis,
+    high: bool,
+    sums: &mut [i64],
+)
+    requires fit { IsFit N G world.now }
+    requires node { IsNode world.now.told.grid beside }
+    requires inner { is_leaf_block world.now.told.grid (block_at world.now.told.grid beside) ≡ false }
+    requires small { NearWithin world.now axis high beside }
+    requires room { N * N ≤ length sums.old }
+    ensures sums { (faces : BlockFaces) → NearHas world.now faces axis high beside → (s t : ℕ) → s < N → t < N
+        → at sums.new (sum_place N s t) ≡ four_finer N faces axis high (block_at world.now.told.grid beside) s t }
+    ensures within { (s t : ℕ) → s < N → t < N → Within (2 ^ 58) (at sums.new (sum_place N s t)) }
+{
+    let tree = world.tree();
+    for quarter in 0..4 {
+        match tree.child(beside, octant_in(axis, !high, quarter)) {
+            Some(child) => sum_child(world, child, axis, high, quarter as usize, sums),
+            None => unreachable!(),
+        }
+    }
+}
+
+/// Gives the faces of a leaf at a side the sums of the faces of the finer leaves there.
+fn take_sums<const N: usize, const G: usize>(
+    world: &mut World<N, G>,
+    node: u32,
+    axis: Axis,
+    high: bool,
+    beside: u32,
+)
+    requires fit { IsFit N G world.old }
+    requires leaf { IsLeafNode world.old.told.grid node }
+    requires beside { IsFinerNode world.old.told.grid axis high (block_at world.old.told.grid node) beside }
+    requires small { NearWithin world.old axis high beside }
+    ensures { SideTaken N G world.old world.new node axis high beside }
+{
+    let _shape = world.tree().shape();
+    let mut sums = [0i64; 64];
+    gather(world, beside, axis, high, &mut sums);
+    let values = world.values_mut(Var::FaceWork(axis), node);
+    set_side(Faces { n: N, g: G, axis }, values, position(N, high), &sums);
+}
+
+/// Corrects a side of a leaf.
+fn correct_side<const N: usize, const G: usize>(
+    world: &mut World<N, G>,
+    node: u32,
+    axis: Axis,
+    high: bool,
+)
+    requires fit { IsFit N G world.old }
+    requires leaf { IsLeafNode world.old.told.grid node }
+    requires tame { IsTame world.old }
+    ensures summed { AreSummed N G world.old world.new }
+    ensures side { (faces : BlockFaces) → CalmHas world.old faces → SideHas world.new faces node axis high }
+{
+    let tree = world.tree();
+    match finer_beside(tree, axis, high, tree.at(node)) {
+        Some(beside) => take_sums(world, node, axis, high, beside),
+        None => (),
+    }
+}
+
+/// Corrects both sides of a leaf on an axis.
+fn correct_axis<const N: usize, const G: usize>(world: &mut World<N, G>, node: u32, axis: Axis)
+    requires fit { IsFit N G world.old }
+    requires leaf { IsLeafNode world.old.told.grid node }
+    requires tame { IsTame world.old }
+    ensures summed { AreSummed N G world.old world.new }
+    ensures sides { (faces : BlockFaces) (high : Bool) → CalmHas world.old faces → SideHas world.new faces node axis high }
+{
+    correct_side(world, node, axis, false);
+    correct_side(world, node, axis, true);
+}
+
+/// Corrects all sides of a leaf.
+fn correct_leaf<const N: usize, const G: usize>(world: &mut World<N, G>, node: u32)
+    requires fit { IsFit N G world.old }
+    requires leaf { IsLeafNode world.old.told.grid node }
+    requires tame { IsTame world.old }
+    ensures summed { AreSummed N G world.old world.new }
+    ensures sides { (faces : BlockFaces) (a : Axes) (high : Bool) → CalmHas world.old faces → SideHas world.new faces node a high }
+{
+    correct_axis(world, node, Axis::X);
+    correct_axis(world, node, Axis::Y);
+    correct_axis(world, node, Axis::Z);
+}
+
+/// Corrects a node, where it is a leaf.
+fn correct_node<const N: usize, const G: usize>(world: &mut World<N, G>, node: u32)
+    requires fit { IsFit N G world.old }
+    requires node { IsNode world.old.told.grid node }
+    requires tame { IsTame world.old }
+    ensures summed { AreSummed N G world.old world.new }
+    ensures sides { (faces : BlockFaces) (a : Axes) (high : Bool) → IsLeafNode world.old.told.grid node → CalmHas world.old faces
+        → SideHas world.new faces node a high }
+{
+    if world.tree().is_leaf(node) {
+        correct_leaf(world, node);
+    }
+}
+
+/// Gives each work face of a leaf beside finer leaves the sum of the four finer work faces there, wrapped on a periodic
+/// axis, so that what finer leaves lose through a side their coarser neighbour gains. All other faces of blocks, and all
+/// other arrays, stay.
+pub fn correct<const N: usize, const G: usize>(world: &mut World<N, G>)
+    requires fit { IsFit N G world.old }
+    requires small { WorkWithin world.old (2 ^ 56) }
+    ensures only { OnlyWorkFaces world.old world.new }
+    ensures fit { IsFit N G world.new }
+    ensures field { (field : FaceAt → ℤ) → WorkHolds world.old field → WorkHolds world.new (jumped world.old.told.grid field) }
+    ensures places { (faces : BlockFaces) → WorkHas world.old faces → WorkHas world.new (corrected world.old.told.grid faces) }
+    ensures small { WorkWithin world.new (2 ^ 58) }
+{
+    for node in 0..world.tree().len() {
+        correct_node(world, node);
+    }
+}

@@ -1,0 +1,146 @@
+//! Jumps of level that are worked by hand.
+
+ghost use Rattle.amr_num.specs.Numbers.{Within, at};
+ghost use Rattle.flux_conserve.specs.Work.{WorkWithin};
+ghost use Rattle.rank_world.specs.Puts.{IsPut};
+ghost use Rattle.mesh_model.specs.Fields.Ranks.{IsFit};
+ghost use Rattle.mesh_model.specs.Geometry.Limits.{IsShape};
+ghost use Rattle.std.specs.Prelude.{◌≡◌, ◌≤◌, ◌^◌, IfSome};
+
+use crate::correct;
+use crate::laws::fluxes_are_jumped;
+use amr_num::{Axis, SideKind};
+use block_store::Layout;
+use block_tree::Tree;
+use mesh_model::{Shape, Var};
+use rank_world::World;
+use std::alloc::Global;
+
+/// Two roots side by side on x, with all sides of one kind.
+fn two_roots(kind: SideKind) -> Shape
+    ensures shape { IsShape result }
+    ensures sizes { (result.n ≡ 4) × (result.g ≡ 1) }
+    ensures max { result.max ≡ 1 }
+{
+    Shape {
+        rx: 2,
+        ry: 1,
+        rz: 1,
+        n: 4,
+        g: 1,
+        min: 0,
+        max: 1,
+        sides: [kind; 6],
+    }
+}
+
+/// The world of two roots of which the first is refined: its children are the nodes 1 to 8, and the other root is node 9.
+fn refined_world(alloc: Global, kind: SideKind) -> Option<World<4, 1>>
+    ensures fit { IfSome result (λ world. IsFit 4 1 world) }
+    ensures small { IfSome result (λ world. WorkWithin world (2 ^ 56)) }
+{
+    let layout = Layout {
+        cells: 1,
+        faces: 0,
+        edges: 0,
+    };
+    let roots = match Tree::roots(alloc, two_roots(kind)) {
+        Ok(roots) => roots,
+        Err(_) => return None,
+    };
+    if roots.len() != 2 {
+        return None;
+    }
+    let tree = match roots.regrown(alloc, &[true, false], &[false, false]) {
+        Ok(tree) => tree,
+        Err(_) => return None,
+    };
+    match World::on_tree(alloc, tree, layout) {
+        Ok(world) => Some(world),
+        Err(_) => None,
+    }
+}
+
+/// Puts a number of few bits at a place of a list that is that long.
+fn put(values: &mut [i64], place: usize, value: i32)
+    ensures { IsPut (2 ^ 56) values.old values.new }
+{
+    if place < values.len() {
+        values[place] = i64::from(value);
+    }
+}
+
+/// Puts a number at a place of the work faces normal to x of a node that is there.
+fn set_work(world: &mut World<4, 1>, node: u32, place: usize, value: i32)
+    requires fit { IsFit 4 1 world.old }
+    requires small { WorkWithin world.old (2 ^ 56) }
+    ensures fit { IsFit 4 1 world.new }
+    ensures small { WorkWithin world.new (2 ^ 56) }
+{
+    if node < world.tree().len() {
+        put(world.values_mut(Var::FaceWork(Axis::X), node), place, value);
+    }
+}
+
+/// The number there.
+fn work(world: &World<4, 1>, node: u32, place: usize) -> Option<i64>
+    requires { IsFit 4 1 world.now }
+{
+    if node < world.tree().len() {
+        world
+            .values(Var::FaceWork(Axis::X), node)
+            .get(place)
+            .copied()
+    } else {
+        None
+    }
+}
+
+/// Numbers of work faces normal to x before: a node, a place, which is (1 + i) + 7 (1 + j) + 42 (1 + k) for the face at
+/// i, j and k of the block, and a number. Node 2 has the octant (1, 0, 0), node 8 (1, 1, 1), and node 1 (0, 0, 0).
+const BEFORE: [(u32, usize, i32); 11] = [
+    (2, 54, 1),
+    (2, 61, 2),
+    (2, 96, 3),
+    (2, 103, 4),
+    (2, 50, 1000),
+    (8, 194, 100),
+    (1, 99, 9),
+    (9, 50, 77),
+    (9, 57, 6),
+    (9, 51, 8),
+    (9, 54, 5),
+];
+
+/// Numbers afterwards, on sides where the mesh ends and on periodic ones.
+const AFTER: [(u32, usize, i64, i64); 8] = [
+    (9, 50, 10, 10),
+    (9, 57, 0, 0),
+    (9, 197, 100, 100),
+    (9, 51, 8, 8),
+    (9, 54, 5, 9),
+    (2, 54, 1, 1),
+    (2, 50, 1000, 1000),
+    (1, 99, 9, 9),
+];
+
+/// Two roots side by side, of which the first is refined.
+#[test]
+fn coarse_faces_take_the_sums_of_finer_ones(rt: HostRuntime) {
+    for kind in [SideKind::Outflow, SideKind::Periodic] {
+        let mut mesh = refined_world(rt.alloc(), kind).expect(&rt, "memory");
+        for (node, place, value) in BEFORE {
+            set_work(&mut mesh, node, place, value);
+        }
+        correct(&mut mesh);
+        for (node, place, ended, wrapped) in AFTER {
+            let wanted = if kind == SideKind::Periodic {
+                wrapped
+            } else {
+                ended
+            };
+            assert_eq!(rt; work(&mesh, node, place), Some(wanted));
+        }
+    }
+    fluxes_are_jumped();
+}

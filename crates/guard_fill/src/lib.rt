@@ -1,0 +1,14 @@
+//! Sums of finer blocks in all nodes above the leaves, and guard cells round the leaves.
+#![tactic(auto)]
+
+mod copying;
+mod filling;
+pub mod laws;
+mod restricting;
+mod strips;
+
+pub use filling::fill;
+pub use restricting::restrict_all;
+
+#[cfg(test)]
+mod tests;

@@ -1,0 +1,121 @@
+//! The guard cells of a block that lie in one direction, axis by axis.
+//!
+//! A direction is 0, 1 or 2 on each axis, as guard cells lie before the block's own cells, beside them or behind them.
+
+ghost use Rattle.guard_fill.specs.Strips.{IsStrip};
+ghost use Rattle.mesh_model.specs.Fields.ArrayPlaces.{IsSize};
+ghost use Rattle.std.specs.Prelude.{◌<◌};
+
+use mesh_model::geometry::{above, below};
+
+/// Places of an array on an axis, and where their numbers stand: in cells of one block, the first place in the first
+/// of them, and each further one in the next cell, or all in the first.
+#[derive(Clone, Copy, Debug, PartialEq, Eq)]
+pub(crate) struct Strip {
+    /// The first place.
+    pub to: usize,
+    /// How many places there are.
+    pub many: usize,
+    /// The block's coordinate on the axis.
+    pub block: u32,
+    /// The first cell.
+    pub first: usize,
+    /// 1 where each place has a cell of its own, and 0 where all have the first.
+    pub step: usize,
+}
+
+/// The places of an array in one direction, axis by axis, and the cells of the block in which their numbers stand.
+#[derive(Clone, Copy, Debug, PartialEq, Eq)]
+pub(crate) struct Patch {
+    /// On the axis x.
+    pub x: Strip,
+    /// On the axis y.
+    pub y: Strip,
+    /// On the axis z.
+    pub z: Strip,
+}
+
+/// The guard cells before a block, on an axis of so many blocks of its level.
+fn before(n: usize, g: usize, periodic: bool, blocks: u32, block: u32) -> Strip
+    requires size { IsSize n g }
+    requires block { block < blocks }
+    ensures { IsStrip n g periodic blocks block 0 result }
+{
+    match below(periodic, blocks, block) {
+        Some(other) => Strip {
+            to: 0,
+            many: g,
+            block: other,
+            first: n - g,
+            step: 1,
+        },
+        None => Strip {
+            to: 0,
+            many: g,
+            block,
+            first: 0,
+            step: 0,
+        },
+    }
+}
+
+/// The block's own cells.
+fn along(n: usize, g: usize, periodic: bool, blocks: u32, block: u32) -> Strip
+    requires size { IsSize n g }
+    requires block { block < blocks }
+    ensures { IsStrip n g periodic blocks block 1 result }
+{
+    let _axis = (periodic, blocks);
+    Strip {
+        to: g,
+        many: n,
+        block,
+        first: 0,
+        step: 1,
+    }
+}
+
+/// The guard cells behind a block.
+fn behind(n: usize, g: usize, periodic: bool, blocks: u32, block: u32) -> Strip
+    requires size { IsSize n g }
+    requires block { block < blocks }
+    ensures { IsStrip n g periodic blocks block 2 result }
+{
+    match above(periodic, blocks, block + 1) {
+        Some(other) => Strip {
+            to: g + n,
+            many: g,
+            block: other,
+            first: 0,
+            step: 1,
+        },
+        None => Strip {
+            to: g + n,
+            many: g,
+            block,
+            first: n - 1,
+            step: 0,
+        },
+    }
+}
+
+/// The places of a direction.
+pub(crate) fn strip_of(
+    n: usize,
+    g: usize,
+    periodic: bool,
+    blocks: u32,
+    block: u32,
+    direction: usize,
+) -> Strip
+    requires size { IsSize n g }
+    requires block { block < blocks }
+    requires direction { direction < 3 }
+    ensures { IsStrip n g periodic blocks block direction result }
+{
+    match direction {
+        0 => before(n, g, periodic, blocks, block),
+        1 => along(n, g, periodic, blocks, block),
+        _ => behind(n, g, periodic, blocks, block),
+    }
+}

@@ -1,6 +1,0 @@
-use Rattle.std.proofs.Common.{◌≡◌, None}
-use Rattle.regrid_move.specs.Above.{first_in_row}
-use Rattle.regrid_move.proofs.above.row_above.Given as goal
-
-abbrev pub invariant-loop-i : goal.invariant-loop-i
-invariant-loop-i l = first_in_row l.row l.j l.k l.i ≡ None

@@ -1,0 +1,13 @@
+pub mod Donors
+pub mod Faces
+pub mod Lifted
+pub mod Nets
+pub mod OuterSides
+pub mod Outflows
+pub mod Ranges
+pub mod Refusals
+pub mod Rows
+pub mod Seams
+pub mod Sides
+pub mod Small
+pub mod Telescopes
