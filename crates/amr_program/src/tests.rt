@@ -140,7 +140,7 @@ const REFUSED: [(&[u8], &[u8]); 4] = [
     ),
     (b"domain 1 2 1\nfacevar f\nend\n", b"error: not built\n"),
     (
-        b"domain 1 1 1\ncellvar u\nregrid\nend\n",
+        b"domain 1 1 1\ncellvar u\ncheckpoint\nend\n",
         b"error: not built\n",
     ),
 ];
@@ -309,6 +309,92 @@ fn refines_and_merges(rt: HostRuntime) -> Result<(), Fail> {
         let (status, sink) = run(rt.alloc(), &[], script, QUIET)?;
         assert_eq!(rt; status, answer);
         assert_eq!(rt; sink.taken(), printed);
+    }
+    Ok(())
+}
+
+/// Scripts whose numbers go with the mesh, each with how it ends and what it prints.
+const CARRIED: [(&[u8], Status, &[u8]); 4] = [
+    (FOLLOWED, Status::Done, MERGED_BEHIND),
+    // Eight numbers that are each within the range have a sum that is not.
+    (
+        b"domain 1 1 1\ncells 4 1\nlevels 0 1\ncellvar u\nmark refine 0 0 0 0\nregrid\n\
+fill u box 1 2 0 0 4 1 1 1099511627775\nmark derefine where u below 1099511627776\nregrid\nend\n",
+        Status::Stopped,
+        b"error: line 9: range u cell 0 1 0 0 2199023255550\n",
+    ),
+    (GUARDED, Status::Done, GUARDS),
+    // Guards are those of a leaf.
+    (
+        b"domain 1 1 1\ncells 4 1\nlevels 0 0\ncellvar u\nprint guards u 1 0 0 0\nend\n",
+        Status::Stopped,
+        b"error: line 5: place block 1 0 0 0\n",
+    ),
+];
+
+/// A row of roots is refined at its start, and all that holds nothing is merged, as far as the level rule allows.
+const FOLLOWED: &[u8] =
+    b"domain 4 1 1\ncells 4 1\nlevels 0 2\ncellvar u\nmark refine 0 0 0 0\nmark refine 0 1 0 0\nregrid\n\
+mark refine 1 1 0 0\nmark derefine where u below 1\nregrid\nprint size\n\
+mark derefine where u below 1\nregrid\nprint mesh\nend\n";
+
+/// What it prints: blocks beside finer ones that go stay once more.
+const MERGED_BEHIND: &[u8] =
+    b"mesh nodes 28 leaves 25\nmesh nodes 12 leaves 11\nleaf 1 0 0 0\nleaf 1 1 0 0\nleaf 1 0 1 0\n\
+leaf 1 1 1 0\nleaf 1 0 0 1\nleaf 1 1 0 1\nleaf 1 0 1 1\nleaf 1 1 1 1\nleaf 0 1 0 0\nleaf 0 2 0 0\n\
+leaf 0 3 0 0\n";
+
+/// Finer blocks beside a coarser one, between outflow sides.
+const GUARDED: &[u8] =
+    b"domain 2 1 1\ncells 4 1\nbounds outflow outflow outflow outflow outflow outflow\nlevels 0 1\n\
+cellvar u\nfill u box 0 4 0 0 5 1 1 19\nmark refine 0 0 0 0\nregrid\nfill u box 1 3 0 0 4 1 1 7\n\
+fill u box 1 4 0 0 5 1 1 5\nprint guards u 1 1 0 0\nend\n";
+
+/// The cells of one of them with its guards: of a finer one beside it, of the coarser one in eighths, and clamped ones.
+const GUARDS: &[u8] =
+    b"guards u block 1 1 0 0\n7 5 0 0 0 3\n7 5 0 0 0 3\n0 0 0 0 0 3\n0 0 0 0 0 0\n0 0 0 0 0 0\n\
+0 0 0 0 0 0\n7 5 0 0 0 3\n7 5 0 0 0 3\n0 0 0 0 0 3\n0 0 0 0 0 0\n0 0 0 0 0 0\n0 0 0 0 0 0\n\
+0 0 0 0 0 2\n0 0 0 0 0 2\n0 0 0 0 0 2\n0 0 0 0 0 0\n0 0 0 0 0 0\n0 0 0 0 0 0\n0 0 0 0 0 0\n\
+0 0 0 0 0 0\n0 0 0 0 0 0\n0 0 0 0 0 0\n0 0 0 0 0 0\n0 0 0 0 0 0\n0 0 0 0 0 0\n0 0 0 0 0 0\n\
+0 0 0 0 0 0\n0 0 0 0 0 0\n0 0 0 0 0 0\n0 0 0 0 0 0\n0 0 0 0 0 0\n0 0 0 0 0 0\n0 0 0 0 0 0\n\
+0 0 0 0 0 0\n0 0 0 0 0 0\n0 0 0 0 0 0\n";
+
+#[test]
+fn contents_go_with_the_mesh(rt: HostRuntime) -> Result<(), Fail> {
+    for (script, answer, printed) in CARRIED {
+        let (status, sink) = run(rt.alloc(), &[], script, QUIET)?;
+        assert_eq!(rt; status, answer);
+        assert_eq!(rt; sink.taken(), printed);
+    }
+    Ok(())
+}
+
+/// What stands below the sizes of a block: two roots, of which the first is refined, and a step over the jump of level.
+const STEPPED: &[u8] =
+    b"levels 0 1\ncellvar u\nfill u box 0 0 0 0 4 4 4 8\nmark refine 0 0 0 0\nregrid\n\
+advect u 100000 -200000 50000\nprint size\ntotal u\nend\n";
+
+/// The heads of scripts with blocks of each size.
+const SIZES: [&[u8]; 6] = [
+    b"domain 2 1 1\ncells 4 1\n",
+    b"domain 2 1 1\ncells 4 2\n",
+    b"domain 2 1 1\ncells 4 4\n",
+    b"domain 2 1 1\ncells 8 1\n",
+    b"domain 2 1 1\ncells 8 2\n",
+    b"domain 2 1 1\ncells 8 4\n",
+];
+
+#[test]
+fn blocks_of_all_sizes_are_run(rt: HostRuntime) -> Result<(), Fail> {
+    for head in SIZES {
+        let mut script = Vec::from_slice(rt.alloc(), head)?;
+        script.extend_from_slice(STEPPED)?;
+        let (status, sink) = run(rt.alloc(), &[], &script, QUIET)?;
+        assert_eq!(rt; status, Status::Done);
+        assert_eq!(rt;
+            sink.taken(),
+            b"mesh nodes 10 leaves 9\ntotal u 512 out 0\n".as_slice()
+        );
     }
     Ok(())
 }
