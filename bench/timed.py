@@ -8,6 +8,7 @@ import shutil
 import subprocess
 import sys
 import tempfile
+import time
 from typing import NamedTuple
 
 HERE = os.path.dirname(os.path.abspath(__file__))
@@ -56,16 +57,33 @@ def answer(script, status=0):
     return ran
 
 
+def scripted(script, status=0):
+    """A thing to time: one run of the built program on a script."""
+    return lambda: answer(script, status).seconds
+
+
+def least_each(things):
+    """The least times of things that are run in turn, so that what else the machine does is the same for all."""
+    return [min(times) for times in zip(*([thing() for thing in things] for _ in range(RUNS)))]
+
+
 def least(script, status=0):
     """The least time of the runs of a script."""
-    return min(answer(script, status).seconds for _ in range(RUNS))
+    return least_each([scripted(script, status)])[0]
 
 
-def alone(begin, lines, end):
-    """The time of lines in a script: with them, less without them, less what reading them takes."""
-    done = least(begin + lines + end) - least(begin + end)
-    # A script without its end is read whole, and no action of it is run.
-    return done - (least(begin + lines, 3) - least(begin, 3))
+def stages(script):
+    """The processor time that a run has used each time it prints a line."""
+    child = subprocess.Popen([PROGRAM], stdin=subprocess.PIPE, stdout=subprocess.PIPE)
+    child.stdin.write(script.encode())
+    child.stdin.close()
+    # Linux names the clock of another process's processor time so.
+    clock = (~child.pid << 3) | 2
+    times = [time.clock_gettime(clock) for _ in iter(child.stdout.readline, b"")]
+    child.stdout.close()
+    if child.wait() != 0:
+        sys.exit(f"measure: exit number {child.returncode}")
+    return times
 
 
 def compiled_flat():
@@ -82,9 +100,6 @@ def compiled_flat():
 FLAT = compiled_flat()
 
 
-def flat_once(what, sizes, times):
-    """The time of one thing that the flat loop does, by many of it less none."""
-    if FLAT is None:
-        return None
-    least_of = lambda count: min(run([FLAT, what, *map(str, sizes), str(count)]).seconds for _ in range(RUNS))
-    return (least_of(times) - least_of(0)) / times
+def flat_runs(what, sizes, times):
+    """Things to time: what the flat loop does, so often and not at all. Their difference is the time of doing it."""
+    return [lambda count=count: run([FLAT, what, *map(str, sizes), str(count)]).seconds for count in (times, 0)]
