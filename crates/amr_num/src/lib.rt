@@ -177,8 +177,19 @@ pub fn spread4(total: i64, guides: [i64; 4]) -> [i64; 4]
     ]
 }
 
-/// `amount` units of 2^-20 of `value`, rounded down. `amount` is at most 2^20.
-fn carry_up(amount: u64, value: i64) -> i64
+/// `amount` units of 2^-20 of a `value` of at most 2^42, rounded down: their product has at most 62 bits.
+#[inline]
+fn carry_small(amount: u64, value: i64) -> i64
+    requires amount { amount ≤ 2 ^ 20 }
+    requires value { Within (2 ^ 42) value }
+    ensures value { result ≡ floor_div (pos amount *ℤ value) (2 ^ 20) }
+    ensures small { Within (2 ^ 56) result }
+{
+    (amount as i64 * value).div_euclid(1 << 20)
+}
+
+/// `amount` units of 2^-20 of a greater `value`, rounded down.
+fn carry_great(amount: u64, value: i64) -> i64
     requires amount { amount ≤ 2 ^ 20 }
     requires value { Within (2 ^ 56) value }
     ensures value { result ≡ floor_div (pos amount *ℤ value) (2 ^ 20) }
@@ -186,6 +197,22 @@ fn carry_up(amount: u64, value: i64) -> i64
 {
     let moved = (amount as i128) * (value as i128);
     moved.div_euclid(1 << 20) as i64
+}
+
+/// `amount` units of 2^-20 of `value`, rounded down. `amount` is at most 2^20. Contents of cells are small, and the sums
+/// of great ones are not.
+#[inline]
+fn carry_up(amount: u64, value: i64) -> i64
+    requires amount { amount ≤ 2 ^ 20 }
+    requires value { Within (2 ^ 56) value }
+    ensures value { result ≡ floor_div (pos amount *ℤ value) (2 ^ 20) }
+    ensures small { Within (2 ^ 56) result }
+{
+    if value.unsigned_abs() <= 1 << 42 {
+        carry_small(amount, value)
+    } else {
+        carry_great(amount, value)
+    }
 }
 
 /// How much of `value` a speed of `n` units of 2^-20 coarsest cells a step carries through a face at `level`,
