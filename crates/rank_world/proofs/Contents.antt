@@ -53,7 +53,7 @@ module _ (g : Grid) (valid : Valid g) (order : Sorted g.leaves) where
 -- ---- contents
 
 -- a coordinate on an axis by its block and its place there
-along : (n x : ℕ) → 0 < n → n * (x / n) + x % n ≡ x
+pub along : (n x : ℕ) → 0 < n → n * (x / n) + x % n ≡ x
 along n x some = omega arith
 
 cell_by_block : (n : ℕ) (c : CellAt) → 0 < n → in_block n (block_of n c) (c.x % n) (c.y % n) (c.z % n) ≡ c

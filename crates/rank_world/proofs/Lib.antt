@@ -1,4 +1,5 @@
 pub mod Meshes
 pub mod Slotted
 pub mod Contents
+pub mod FaceContents
 pub mod Puts

@@ -3,10 +3,13 @@ use Rattle.std.proofs.Common.{◌≡◌, ℕ, ◌+◌, ◌*◌, ◌%◌, ◌<◌
 use Rattle.std.specs.Prelude.{replicate}
 use Rattle.std.proofs.lemmas.Bool.{cases_Bool, cases_lt, cases_order, le-ltb, lt-ltb}
 use Rattle.std.proofs.lemmas.List.{length-replicate}
+use Rattle.amr_num.specs.declared.Axis.{Axis}
 use Rattle.amr_num.specs.declared.CellAt.{CellAt}
+use Rattle.amr_num.specs.declared.FaceAt.{FaceAt}
 use Rattle.amr_num.specs.Numbers.{Within, number_range}
-use Rattle.mesh_model.specs.declared.fields.values.Var.TheVariants.{Cell}
-use Rattle.mesh_model.specs.Fields.ArrayPlaces.{HoldsViews}
+use Rattle.mesh_model.specs.declared.fields.values.Var.TheVariants.{Cell, Face}
+use Rattle.mesh_model.specs.Fields.ArrayPlaces.{HoldsFaces, HoldsViews}
+use Rattle.mesh_model.specs.Fields.FinePlaces.{faces_in}
 use Rattle.mesh_model.specs.Fields.Octants.{cells_of}
 use Rattle.mesh_model.specs.Fields.Plain.{Mesh}
 use Rattle.mesh_model.specs.Fields.Ranks.{Told, WorldState}
@@ -24,7 +27,7 @@ use Rattle.mesh_model.proofs.TreeLemmas.Tiling.{leaf_says}
 use Rattle.block_tree.specs.Numbered.{IsNode, block_at}
 use Rattle.block_tree.proofs.Leaves.{leaf_node}
 use Rattle.block_tree.proofs.Members.{at_in, one_place}
-use Rattle.rank_world.specs.Holding.{IsLeafNode, IsOfMesh, IsOfValidMesh, LeavesHold, LeavesInRange, OnlyCells, cell_array, numbers_of}
+use Rattle.rank_world.specs.Holding.{IsLeafNode, IsOfMesh, IsOfValidMesh, LeavesHold, LeavesHoldFaces, LeavesInRange, OnlyCells, cell_array, face_array, numbers_of}
 
 module _ (w : WorldState) (valid : Valid w.told.grid) (order : Sorted w.told.grid.leaves) where
   abbrev IsLeafCell : CellAt → Type 0
@@ -126,7 +129,7 @@ module _ (w : WorldState) (valid : Valid w.told.grid) (order : Sorted w.told.gri
           range = record { cells = all; outs = λ v. omega arith; faces = λ f. omega arith; edges = λ e. omega arith };
           marks = record { refine = λ b h. cc; derefine = λ b h. cc };
         };
-        world = record { grid = refl; cells = sym count; faces = (λ h. refl, λ h. faces); edges = (λ h. refl, λ h. edges); contents = leaves_hold };
+        world = record { grid = refl; cells = sym count; faces = (λ h. refl, λ h. faces); edges = (λ h. refl, λ h. edges); contents = leaves_hold; on_faces = λ h. absurd (omega (arith, faces, h)) };
       }
     where
       each : (v : ℕ) (c : CellAt) → is_leaf w.told.grid c ≡ false → content v c ≡ pos 0
@@ -141,15 +144,29 @@ module _ (w : WorldState) (valid : Valid w.told.grid) (order : Sorted w.told.gri
         | inr past ↦ subst (Within number_range) (sym (content_past v past c)) (omega arith)
       ]
 
--- a world of a mesh stays one where the numbers of one cell variable change, and its leaves hold what they held
-pub cells_keep_mesh : (a b : WorldState) (v : ℕ) (m : Mesh) → OnlyCells a b v → ((content : CellAt → ℤ) → LeavesHold a v content → LeavesHold b v content) → IsOfMesh a m → IsOfMesh b m
-cells_keep_mesh a b v m only keeps of = record {
-  grid = ap (λ (t : Told). t.grid) only.told ∙ of.grid;
-  cells = ap (λ (t : Told). t.counts.cells) only.told ∙ of.cells;
-  faces = subst (λ (t : Told). (t.counts.faces ≡ 0) ↔ (m.names.face ≡ None)) (sym only.told) of.faces;
-  edges = subst (λ (t : Told). (t.counts.edges ≡ 0) ↔ (m.names.edge ≡ None)) (sym only.told) of.edges;
-  contents = λ u h. contents u (subst (λ (t : Told). u < t.counts.cells) only.told h);
+-- a world is that of a mesh still where its leaves hold what they held
+pub mesh_kept : (a b : WorldState) (m : Mesh) → b.told ≡ a.told → ((v : ℕ) → v < a.told.counts.cells → LeavesHold a v (m.cells v) → LeavesHold b v (m.cells v)) → (LeavesHoldFaces a m.faces → LeavesHoldFaces b m.faces) →
+    IsOfMesh a m → IsOfMesh b m
+mesh_kept a b m told cells faces of = record {
+  grid = ap (λ (t : Told). t.grid) told ∙ of.grid;
+  cells = ap (λ (t : Told). t.counts.cells) told ∙ of.cells;
+  faces = subst (λ (t : Told). (t.counts.faces ≡ 0) ↔ (m.names.face ≡ None)) (sym told) of.faces;
+  edges = subst (λ (t : Told). (t.counts.edges ≡ 0) ↔ (m.names.edge ≡ None)) (sym told) of.edges;
+  contents = λ v h. let was = subst (λ (t : Told). v < t.counts.cells) told h in cells v was (of.contents v was);
+  on_faces = λ h. faces (of.on_faces (subst (λ (t : Told). 0 < t.counts.faces) told h));
 }
+
+-- leaves whose arrays of faces are what they were hold the same field on faces
+pub faces_same : (a b : WorldState) (field : FaceAt → ℤ) → b.told ≡ a.told → ((x : Axis) (node : ℕ) → IsLeafNode a.told.grid node → face_array b x node ≡ face_array a x node) → LeavesHoldFaces a field → LeavesHoldFaces b field
+faces_same a b field told same holds node leaf x =
+    let was : IsLeafNode a.told.grid node = subst (λ (t : Told). IsLeafNode t.grid node) told leaf in
+    subst (λ (t : Told). HoldsFaces t.grid field x (block_at t.grid node) (faces_in t.grid x (face_array b x node))) (sym told)
+    (subst (λ xs. HoldsFaces a.told.grid field x (block_at a.told.grid node) (faces_in a.told.grid x xs)) (sym (same x node was)) (holds node was x))
+
+-- so it is where the numbers of one cell variable change
+pub cells_keep_mesh : (a b : WorldState) (v : ℕ) (m : Mesh) → OnlyCells a b v → ((content : CellAt → ℤ) → LeavesHold a v content → LeavesHold b v content) → IsOfMesh a m → IsOfMesh b m
+cells_keep_mesh a b v m only keeps of =
+    mesh_kept a b m only.told contents (faces_same a b m.faces only.told (λ x node leaf. only.others (Face x) node (λ is. absurd cc))) of
   where
     other : (u : ℕ) → (u ≡ v → ⊥) → LeavesHold a u (m.cells u) → LeavesHold b u (m.cells u)
     other u apart holds node leaf =
@@ -160,9 +177,9 @@ cells_keep_mesh a b v m only keeps of = record {
         same_cell : (u v : ℕ) → Cell u ≡ Cell v → u ≡ v
         same_cell u v is = cc
 
-    contents : (u : ℕ) → u < a.told.counts.cells → LeavesHold b u (m.cells u)
-    contents u h = elim (cases_order u v) [
-      | inl same ↦ subst (λ k. LeavesHold b k (m.cells u)) (sym same) (keeps (m.cells u) (subst (λ k. LeavesHold a k (m.cells u)) same (of.contents u h)))
-      | inr (inl less) ↦ other u (λ is. omega arith) (of.contents u h)
-      | inr (inr more) ↦ other u (λ is. omega arith) (of.contents u h)
+    contents : (u : ℕ) → u < a.told.counts.cells → LeavesHold a u (m.cells u) → LeavesHold b u (m.cells u)
+    contents u h holds = elim (cases_order u v) [
+      | inl same ↦ subst (λ k. LeavesHold b k (m.cells u)) (sym same) (keeps (m.cells u) (subst (λ k. LeavesHold a k (m.cells u)) same holds))
+      | inr (inl less) ↦ other u (λ is. omega arith) holds
+      | inr (inr more) ↦ other u (λ is. omega arith) holds
     ]

@@ -1,12 +1,15 @@
 -- Worlds whose nodes hold the views of a field.
 use Rattle.std.specs.Prelude.{◌≡◌, ℕ, ◌+◌, ◌<◌, ◌↔◌, true, List, length, ℤ, None}
+use Rattle.amr_num.specs.declared.Axis.{Axis}
 use Rattle.amr_num.specs.declared.CellAt.{CellAt}
+use Rattle.amr_num.specs.declared.FaceAt.{FaceAt}
 use Rattle.amr_num.specs.Numbers.{Within, number_range}
 use Rattle.mesh_model.specs.declared.fields.values.Var.{Var}
-use Rattle.mesh_model.specs.declared.fields.values.Var.TheVariants.{Cell}
+use Rattle.mesh_model.specs.declared.fields.values.Var.TheVariants.{Cell, Face}
 use Rattle.mesh_model.specs.Fields.Arrays.{array_in}
 use Rattle.mesh_model.specs.Fields.Octants.{cells_of}
-use Rattle.mesh_model.specs.Fields.ArrayPlaces.{HoldsViews}
+use Rattle.mesh_model.specs.Fields.ArrayPlaces.{HoldsFaces, HoldsViews}
+use Rattle.mesh_model.specs.Fields.FinePlaces.{faces_in}
 use Rattle.mesh_model.specs.Tree.Kinds.{Grid, is_leaf_block}
 use Rattle.mesh_model.specs.Fields.Plain.{Mesh}
 use Rattle.mesh_model.specs.Fields.Valid.{ValidMesh}
@@ -35,6 +38,17 @@ LeavesHold w v content = (node : ℕ) → IsLeafNode w.told.grid node → NodeHo
 abbrev pub NodesHold : WorldState → ℕ → (CellAt → ℤ) → Type 0
 NodesHold w v content = (node : ℕ) → IsNode w.told.grid node → NodeHolds w v content node
 
+-- the array of the faces of a node normal to an axis
+abbrev pub face_array : WorldState → Axis → ℕ → List ℤ
+face_array w a node = array_in (rank_at w 0).own.values (Face a) node
+
+-- a node holds the views of a field on faces, on its faces normal to each axis, those on its sides among them; each leaf does
+abbrev pub NodeHoldsFaces : WorldState → (FaceAt → ℤ) → ℕ → Type 0
+NodeHoldsFaces w field node = (a : Axis) → HoldsFaces w.told.grid field a (block_at w.told.grid node) (faces_in w.told.grid a (face_array w a node))
+
+abbrev pub LeavesHoldFaces : WorldState → (FaceAt → ℤ) → Type 0
+LeavesHoldFaces w field = (node : ℕ) → IsLeafNode w.told.grid node → NodeHoldsFaces w field node
+
 -- the numbers of one cell variable may be others
 pub record OnlyCells (old new : WorldState) (v : ℕ) : Type 0 where
   pub told : new.told ≡ old.told
@@ -47,13 +61,15 @@ pub record LeafInRange (w : WorldState) (v node : ℕ) : Type 0 where
 abbrev pub LeavesInRange : WorldState → Type 0
 LeavesInRange w = (v node : ℕ) → v < w.told.counts.cells → IsLeafNode w.told.grid node → LeafInRange w v node
 
--- the world is that of a mesh: its tree and its variables, and each leaf holds the contents
+-- the world is that of a mesh: its tree and its variables, and each leaf holds the contents of its cells, and on each of its faces what
+-- the face variable has there
 pub record IsOfMesh (w : WorldState) (m : Mesh) : Type 0 where
   pub grid : w.told.grid ≡ m.grid
   pub cells : w.told.counts.cells ≡ length m.names.cells
   pub faces : (w.told.counts.faces ≡ 0) ↔ (m.names.face ≡ None)
   pub edges : (w.told.counts.edges ≡ 0) ↔ (m.names.edge ≡ None)
   pub contents : (v : ℕ) → v < w.told.counts.cells → LeavesHold w v (m.cells v)
+  pub on_faces : 0 < w.told.counts.faces → LeavesHoldFaces w m.faces
 
 -- the world is that of a valid mesh
 pub record IsOfValidMesh (w : WorldState) : Type 0 where
