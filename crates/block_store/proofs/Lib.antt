@@ -2,3 +2,4 @@ pub mod Aboves
 pub mod Hand
 pub mod Lengths
 pub mod Pooled
+pub mod BoxRows

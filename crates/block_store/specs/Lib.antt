@@ -5,3 +5,4 @@ pub mod Making
 pub mod Pools
 pub mod PoolLends
 pub mod Views
+pub mod Regions

@@ -1,15 +1,20 @@
 //! Numbers out of range among those of a block.
 
 ghost use Rattle.amr_num.specs.Numbers.{Within, at};
-ghost use Rattle.mesh_model.specs.Fields.Firsts.{first_below};
-ghost use Rattle.mesh_model.specs.Fields.ArrayPlaces.{IsSize, cell_extents, number_at, size_of};
-ghost use Rattle.block_store.specs.Above.{above_at, first_in_block, first_in_plane, first_in_row};
-ghost use Rattle.std.specs.Prelude.{◌≡◌, ◌+◌, ◌<◌, ◌≤◌, ◌^◌, ℕ, IsTrue, length};
+ghost use Rattle.amr_num.specs.declared.Axis.TheVariants.{X, Y, Z};
+ghost use Rattle.mesh_model.specs.Fields.ArrayPlaces.{Fits, IsSize, cell_extents, face_extents, number_at, size_of};
+ghost use Rattle.mesh_model.specs.Fields.FaceSplits as splits;
+ghost use Rattle.mesh_model.specs.Fields.Firsts.{first_in_places};
+ghost use Rattle.block_store.specs.Above as above;
+ghost use Rattle.block_store.specs.Regions.{box_of};
+ghost use Rattle.block_store.specs.Above.{counted_at, first_in_block, first_in_faces, first_in_plane, first_in_row};
+ghost use Rattle.std.specs.Prelude.{◌≡◌, ◌+◌, ◌<◌, ◌≤◌, ◌^◌, ◌==◌, ◌||◌, ◌&&◌, not, ℕ, IsTrue, length};
 
-use crate::places::cell_row;
-use amr_num::fits;
+use crate::places::{Extents, row};
+use crate::regions::{PlaceAt, Region};
+use amr_num::{Axis, fits};
 
-/// A number out of range, and its place among the cells of a block.
+/// A number out of range, and its place among the cells of a block, or among its faces normal to an axis.
 #[derive(Clone, Copy, Debug, PartialEq, Eq)]
 pub struct Above {
     /// The coordinate on x in the block.
@@ -22,23 +27,84 @@ pub struct Above {
     pub value: i64,
 }
 
+/// The faces of a block normal to an axis, those on its low and on its high side only where that is said.
+#[derive(Clone, Copy, Debug, PartialEq, Eq)]
+pub struct CountedFaces {
+    /// The axis.
+    pub axis: Axis,
+    /// Whether those on the low side count.
+    pub low: bool,
+    /// Whether those on the high side do.
+    pub high: bool,
+}
+
+/// Which numbers of a block count.
+#[derive(Clone, Copy)]
+enum Counted {
+    /// All of its cells'.
+    Cells,
+    /// Those of some of its faces.
+    Faces(CountedFaces),
+}
+
+/// The one of three coordinates that is on an axis.
+#[inline]
+fn position(axis: Axis, i: usize, j: usize, k: usize) -> usize
+    ensures { result ≡ splits.position axis i j k }
+{
+    match axis {
+        Axis::X => i,
+        Axis::Y => j,
+        Axis::Z => k,
+    }
+}
+
+/// Whether a face counts, whose position on the axis is `p`.
+fn is_counted_face(n: usize, faces: CountedFaces, p: usize) -> bool
+    ensures { result ≡ ((faces.low || not (p == 0)) && (faces.high || not (p == n))) }
+{
+    (faces.low || p != 0) && (faces.high || p != n)
+}
+
+/// Whether the number at a place counts.
+fn is_counted(n: usize, counted: Counted, i: usize, j: usize, k: usize) -> bool
+    ensures { result ≡ above.is_counted n counted i j k }
+{
+    match counted {
+        Counted::Cells => true,
+        Counted::Faces(faces) => is_counted_face(n, faces, position(faces.axis, i, j, k)),
+    }
+}
+
 /// A number of a row, where it is out of range.
 #[inline]
-fn checked(row: &[i64], i: usize, j: u32, k: u32) -> Option<Above>
-    requires short { length row.now ≤ 8 }
-    requires inside { i < length row.now }
-    ensures { result ≡ above_at (λ x y z. at row.now x) i j k }
+fn out_of_range(value: i64, i: usize, j: usize, k: usize) -> Option<Above>
+    requires { (i ≤ 9) × (j ≤ 9) × (k ≤ 9) }
+    ensures { result ≡ above.above_at (λ x y z. value) i j k }
 {
-    let value = row[i];
     if fits(value) {
-        None
+        return None;
+    }
+    Some(Above {
+        i: i as u32,
+        j: j as u32,
+        k: k as u32,
+        value,
+    })
+}
+
+/// A number of a row that counts, where it is out of range.
+#[inline]
+fn checked(row: &[i64], n: usize, counted: Counted, i: usize, j: usize, k: usize) -> Option<Above>
+    requires short { length row.now ≤ 9 }
+    requires inside { i < length row.now }
+    requires row { (j ≤ 9) × (k ≤ 9) }
+    ensures { result ≡ counted_at n counted (λ x y z. at row.now x) i j k }
+{
+    if is_counted(n, counted, i, j, k) {
+        out_of_range(row[i], i, j, k)
     } else {
-        Some(Above {
-            i: i as u32,
-            j,
-            k,
-            value,
-        })
+        None
     }
 }
 
@@ -54,16 +120,17 @@ fn row_fits(row: &[i64]) -> bool
     all
 }
 
-/// The first number of a row that is out of range.
-fn row_above(row: &[i64], j: u32, k: u32) -> Option<Above>
-    requires { length row.now ≤ 8 }
-    ensures { result ≡ first_in_row row.now j k (length row.now) }
+/// The first number of a row that counts and is out of range.
+fn row_above(row: &[i64], n: usize, counted: Counted, j: usize, k: usize) -> Option<Above>
+    requires short { length row.now ≤ 9 }
+    requires row { (j ≤ 9) × (k ≤ 9) }
+    ensures { result ≡ first_in_row n counted row.now j k (length row.now) }
 {
     if row_fits(row) {
         return None;
     }
     for i in 0..row.len() {
-        let found = checked(row, i, j, k);
+        let found = checked(row, n, counted, i, j, k);
         if found.is_some() {
             return found;
         }
@@ -71,15 +138,75 @@ fn row_above(row: &[i64], j: u32, k: u32) -> Option<Above>
     None
 }
 
-/// The first number of a plane of a block's cells that is out of range.
-fn plane_above(n: usize, g: usize, values: &[i64], k: u32) -> Option<Above>
-    requires size { IsSize n g }
-    requires values { length values.now ≡ size_of (cell_extents n g) }
-    requires plane { k < n }
-    ensures { result ≡ first_in_plane (λ x y z. number_at (cell_extents n g) values.now (g + x) (g + y) (g + z)) n k n }
+/// The row (j, k) of a region of an array.
+fn plane_row<'a>(
+    extents: Extents,
+    region: Region,
+    values: &'a [i64],
+    j: usize,
+    k: usize,
+) -> &'a [i64]
+    requires small { (extents.x ≤ 17) × (extents.y ≤ 17) × (extents.z ≤ 17) }
+    requires fits { Fits extents (box_of region) }
+    requires some { 0 < region.along_x }
+    requires values { length values.now ≡ size_of extents }
+    requires row { (j < region.along_y) × (k < region.along_z) }
+    ensures size { length result.now ≡ region.along_x }
+    ensures numbers { (t : ℕ) → t < region.along_x → at result.now t ≡ number_at extents values.now (region.at.x + t) (region.at.y + j) (region.at.z + k) }
 {
-    for j in 0..n {
-        let found = row_above(cell_row(n, g, values, j, k as usize), j as u32, k);
+    let first = region.at;
+    row(
+        extents,
+        values,
+        first.x,
+        first.y + j,
+        first.z + k,
+        region.along_x,
+    )
+}
+
+/// The first number of a plane of a region of an array that counts and is out of range.
+fn plane_above(
+    extents: Extents,
+    region: Region,
+    values: &[i64],
+    n: usize,
+    counted: Counted,
+    k: usize,
+) -> Option<Above>
+    requires small { (extents.x ≤ 17) × (extents.y ≤ 17) × (extents.z ≤ 17) }
+    requires fits { Fits extents (box_of region) }
+    requires few { (0 < region.along_x) × (region.along_x ≤ 9) × (region.along_y ≤ 9) × (region.along_z ≤ 9) }
+    requires values { length values.now ≡ size_of extents }
+    requires plane { k < region.along_z }
+    ensures { result ≡ first_in_plane n counted (λ x y z. number_at extents values.now (region.at.x + x) (region.at.y + y) (region.at.z + z)) region.along_x k region.along_y }
+{
+    for j in 0..region.along_y {
+        let numbers = plane_row(extents, region, values, j, k);
+        let found = row_above(numbers, n, counted, j, k);
+        if found.is_some() {
+            return found;
+        }
+    }
+    None
+}
+
+/// The first number of a region of an array that counts and is out of range.
+fn region_above(
+    extents: Extents,
+    region: Region,
+    values: &[i64],
+    n: usize,
+    counted: Counted,
+) -> Option<Above>
+    requires small { (extents.x ≤ 17) × (extents.y ≤ 17) × (extents.z ≤ 17) }
+    requires fits { Fits extents (box_of region) }
+    requires few { (0 < region.along_x) × (region.along_x ≤ 9) × (region.along_y ≤ 9) × (region.along_z ≤ 9) }
+    requires values { length values.now ≡ size_of extents }
+    ensures { result ≡ first_in_places region.along_x region.along_y region.along_z (counted_at n counted (λ x y z. number_at extents values.now (region.at.x + x) (region.at.y + y) (region.at.z + z))) }
+{
+    for k in 0..region.along_z {
+        let found = plane_above(extents, region, values, n, counted, k);
         if found.is_some() {
             return found;
         }
@@ -93,11 +220,30 @@ pub fn block_above(n: usize, g: usize, values: &[i64]) -> Option<Above>
     requires values { length values.now ≡ size_of (cell_extents n g) }
     ensures { result ≡ first_in_block (λ x y z. number_at (cell_extents n g) values.now (g + x) (g + y) (g + z)) n }
 {
-    for k in 0..n {
-        let found = plane_above(n, g, values, k as u32);
-        if found.is_some() {
-            return found;
-        }
-    }
-    None
+    let at = PlaceAt { x: g, y: g, z: g };
+    let region = Region {
+        at,
+        along_x: n,
+        along_y: n,
+        along_z: n,
+    };
+    region_above(Extents::of_cells(n, g), region, values, n, Counted::Cells)
+}
+
+/// The first number of a block's faces that count that is out of range, x fastest, then y, then z.
+pub fn faces_above(n: usize, g: usize, values: &[i64], faces: CountedFaces) -> Option<Above>
+    requires size { IsSize n g }
+    requires values { length values.now ≡ size_of (face_extents n g faces.axis) }
+    ensures { result ≡ first_in_faces (λ x y z. number_at (face_extents n g faces.axis) values.now (g + x) (g + y) (g + z)) n faces }
+{
+    let at = PlaceAt { x: g, y: g, z: g };
+    let along = Extents::of_block_faces(n, faces.axis);
+    let region = Region {
+        at,
+        along_x: along.x,
+        along_y: along.y,
+        along_z: along.z,
+    };
+    let extents = Extents::of_faces(n, g, faces.axis);
+    region_above(extents, region, values, n, Counted::Faces(faces))
 }

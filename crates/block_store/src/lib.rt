@@ -5,18 +5,22 @@
 #![tactic(auto)]
 
 mod above;
+mod axes;
 mod cells;
 mod layout;
 mod making;
 mod places;
 mod pool;
+mod regions;
 mod store;
 
-pub use above::{Above, block_above};
+pub use above::{Above, CountedFaces, block_above, faces_above};
+pub use axes::{Edges, Faces};
 pub use cells::Cells;
 pub use layout::Layout;
 pub use places::{Extents, cell_row, number_of, place, row};
 pub use pool::Pool;
+pub use regions::{PlaceAt, Region, copy_region};
 pub use store::Beside;
 
 #[cfg(test)]

@@ -31,7 +31,9 @@ impl Model for Extents {
 
 impl Extents {
     ghost use Rattle.mesh_model.specs.Fields.ArrayPlaces as places;
+    ghost use Rattle.amr_num.specs.declared.Axis.TheVariants.{X, Y, Z};
     ghost use Rattle.mesh_model.specs.Fields.ArrayPlaces.{IsSize};
+    ghost use Rattle.mesh_model.specs.Geometry.Places.{longer_on};
     ghost use Rattle.std.specs.Prelude.{◌≡◌, ◌≤◌};
 
     /// The extents of a variable's array in blocks of `n` cells along each axis with `g` guard cells on each side.
@@ -67,10 +69,18 @@ impl Extents {
         requires { IsSize n g }
         ensures { result ≡ places.face_extents n g axis }
     {
-        let side = n + 2 * g;
-        let x = if axis == Axis::X { side + 1 } else { side };
-        let y = if axis == Axis::Y { side + 1 } else { side };
-        let z = if axis == Axis::Z { side + 1 } else { side };
+        Extents::of_block_faces(n + 2 * g, axis)
+    }
+
+    /// How many faces normal to an axis a block of `n` cells along each axis has along each, those on its sides among
+    /// them.
+    pub fn of_block_faces(n: usize, axis: Axis) -> Extents
+        requires { n ≤ 16 }
+        ensures { result ≡ record { x = longer_on axis X n; y = longer_on axis Y n; z = longer_on axis Z n } }
+    {
+        let x = if axis == Axis::X { n + 1 } else { n };
+        let y = if axis == Axis::Y { n + 1 } else { n };
+        let z = if axis == Axis::Z { n + 1 } else { n };
         Extents { x, y, z }
     }
 

@@ -16,3 +16,4 @@ pub mod Regrowing
 pub mod Taking
 pub mod Flat
 pub mod Later
+pub mod BlocksBeside

@@ -5,3 +5,4 @@ pub mod Growing
 pub mod Marked
 pub mod Searching
 pub mod Places
+pub mod Beside

@@ -4,12 +4,14 @@
 //! a parent stands before its children.
 #![tactic(auto)]
 
+mod beside;
 mod blocks;
 mod marks;
 mod places;
 mod search;
 mod tree;
 
+pub use beside::{block_beside, finer_beside};
 pub use marks::Marks;
 pub use tree::{GrowStop, NodeKind, Tree};
 

@@ -1,5 +1,4 @@
 pub mod FacePlaces
-pub mod Finer
 pub mod Axes
 pub mod Sides
 pub mod Fields

@@ -23,7 +23,7 @@ use Rattle.mesh_model.proofs.TreeLemmas.Tiling.{IsChild, child_of_split, child_o
 use Rattle.mesh_model.proofs.TreeLemmas.Touching.{Meet, Touch}
 use Rattle.flux_conserve.specs.Jumps.{IsCalm, beside_on, block_beside, block_moved, block_with, child_beside, face_name, finer_beside, if_split, octant_on, quarter_at, side_half, side_position, spot}
 use Rattle.flux_conserve.proofs.Axes.{Neighbours, above_high, above_own, back, below_low, below_own, ends_meet, halves_meet, neighbours, seam}
-use Rattle.flux_conserve.proofs.Finer.{whole_beside}
+use Rattle.block_tree.proofs.BlocksBeside.{whole_beside}
 
 -- ---- cells of blocks by the places along an axis and across it
 

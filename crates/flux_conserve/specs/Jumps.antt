@@ -11,44 +11,15 @@ use Rattle.mesh_model.specs.Geometry.Blocks.{child_block}
 use Rattle.mesh_model.specs.Geometry.Coordinates.{above, below, face_of, is_periodic, roots, sub_face}
 use Rattle.mesh_model.specs.Geometry.Canonical.{canonical_on}
 use Rattle.mesh_model.specs.Geometry.Places.{in_block}
-use Rattle.mesh_model.specs.Geometry.Touch.{block_on}
-use Rattle.mesh_model.specs.Tree.Kinds.{Grid, is_split_block, is_split_face}
+use Rattle.mesh_model.specs.Tree.Kinds.{Grid, is_split_face}
+pub use Rattle.block_tree.specs.Beside.{beside_on, block_moved, block_with, if_split}
+unfoldable pub use Rattle.block_tree.specs.Beside.{block_beside, finer_beside}
 
 -- ---- fields
 
 -- a field on faces with the sum of the four finer faces at each face that has a split side
 abbrev pub jumped : Grid → (FaceAt → ℤ) → FaceAt → ℤ
 jumped g field f = if is_split_face g f then sum_below 4 (λ q. field (sub_face f q)) else field f
-
--- ---- blocks side by side
-
--- the coordinate beside p, on the low or the high side, on an axis of e blocks
-abbrev pub beside_on : Bool → Bool → ℕ → ℕ → Option ℕ
-beside_on periodic false e p = below periodic e p
-beside_on periodic true e p = above periodic e (suc p)
-
--- b with a coordinate on an axis, where that is there
-abbrev pub block_with : Axis → ℕ → BlockAt → BlockAt
-block_with X p b = record { level = b.level; x = p; y = b.y; z = b.z }
-block_with Y p b = record { level = b.level; x = b.x; y = p; z = b.z }
-block_with Z p b = record { level = b.level; x = b.x; y = b.y; z = p }
-
-abbrev pub block_moved : Axis → Option ℕ → BlockAt → Option BlockAt
-block_moved a None b = None
-block_moved a (Some p) b = Some (block_with a p b)
-
--- the block of the same level beside b on the low or the high side of an axis, wrapped on a periodic one
-unfoldable pub block_beside : Shape → Axis → Bool → BlockAt → Option BlockAt
-block_beside s a high b = block_moved a (beside_on (is_periodic s a) high (roots s a * 2 ^ b.level) (block_on a b)) b
-
--- a block, where it is split
-abbrev pub if_split : Grid → Option BlockAt → Option BlockAt
-if_split g None = None
-if_split g (Some d) = if is_split_block g d then Some d else None
-
--- the split block beside b: there is one exactly where finer leaves stand on that side
-unfoldable pub finer_beside : Grid → Axis → Bool → BlockAt → Option BlockAt
-finer_beside g a high b = if_split g (block_beside g.shape a high b)
 
 -- ---- faces of blocks by places
 

@@ -13,6 +13,7 @@ use Rattle.mesh_model.specs.Fields.Ranks.{IsFit, OnlyOf, WorldState, rank_at}
 use Rattle.mesh_model.specs.Geometry.Places.{longer_on}
 use Rattle.mesh_model.specs.Tree.Kinds.{Grid, is_leaf_block}
 use Rattle.block_tree.specs.Numbered.{IsNode, IsNumberOf, block_at}
+pub use Rattle.block_tree.specs.Beside.{IsFinerNode}
 use Rattle.rank_world.specs.Holding.{IsLeafNode}
 use Rattle.flux_conserve.specs.Jumps.{BlockFaces, IsCalm, IsFacePlace, child_beside, finer_beside, four_finer, side_position, spot}
 
@@ -76,12 +77,6 @@ pub record AreSummed (n g : ℕ) (old new : WorldState) : Type 0 where
   pub tame : IsTame new
   pub calm : (faces : BlockFaces) → CalmHas old faces → CalmHas new faces
   pub keeps : (faces : BlockFaces) (node : ℕ) (a : Axis) (high : Bool) → IsLeafNode old.told.grid node → CalmHas old faces → SideHas old faces node a high → SideHas new faces node a high
-
--- the node is the split block beside b
-pub record IsFinerNode (g : Grid) (a : Axis) (high : Bool) (b : BlockAt) (node : ℕ) : Type 0 where
-  pub there : IsNode g node
-  pub inner : is_leaf_block g (block_at g node) ≡ false
-  pub finer : finer_beside g a high b ≡ Some (block_at g node)
 
 -- the children of the block of a node that stand at a side of a coarser block have work faces with these numbers there
 pub record NearHas (w : WorldState) (faces : BlockFaces) (a : Axis) (high : Bool) (node : ℕ) : Type 0 where

@@ -13,10 +13,10 @@ ghost use Rattle.mesh_model.specs.Tree.Kinds.{is_leaf_block};
 ghost use Rattle.rank_world.specs.Holding.{IsLeafNode};
 ghost use Rattle.std.specs.Prelude.{◌≡◌, ◌+◌, ◌*◌, ◌/◌, ◌%◌, ◌^◌, ◌<◌, ◌≤◌, ℕ, ℤ, Bool, not, false, length};
 
-use crate::beside::finer_beside;
 use crate::faces::Faces;
 use crate::sums::{set_side, sum_side};
 use amr_num::Axis;
+use block_tree::finer_beside;
 use mesh_model::Var;
 use rank_world::World;
 

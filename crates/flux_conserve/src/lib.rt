@@ -1,7 +1,6 @@
 //! Fluxes that agree at jumps of level: each coarse face there takes the sum of the finer faces beside it.
 #![tactic(auto)]
 
-mod beside;
 mod correcting;
 mod faces;
 pub mod laws;

@@ -1,3 +1,4 @@
 pub mod Near
 pub mod Regrids
 pub mod Tried
+pub mod FaceMoves

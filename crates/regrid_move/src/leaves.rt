@@ -132,7 +132,7 @@ fn sum_up<const N: usize, const G: usize>(
 }
 
 /// The leaf of the tree that a block is a child of.
-fn parent_leaf(tree: &Tree, b: BlockAt) -> Option<u32>
+pub(crate) fn parent_leaf(tree: &Tree, b: BlockAt) -> Option<u32>
     ensures { let g = grid_of tree.now in
         MatchOption result (0 < b.level → is_leaf_block g (parent_block b) ≡ false) (λ parent. (0 < b.level) × IsLeafNode g parent × (block_at g parent ≡ parent_block b)) }
 {

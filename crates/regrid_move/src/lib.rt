@@ -4,9 +4,11 @@
 //! end. So a refusal leaves the first as it was.
 #![tactic(auto)]
 
+mod faces;
 mod leaves;
 mod moving;
 mod regridding;
+mod splitting;
 
 pub use regridding::{RegridStop, regrid};
 

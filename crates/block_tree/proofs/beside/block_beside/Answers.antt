@@ -1,7 +1,7 @@
 use Rattle.std.proofs.Common.{◌≡◌, ℕ, Bool, Some, None, Option, ap, ap₂, sym, ◌∙◌}
-use Rattle.flux_conserve.specs.Jumps.{beside_on}
-use Rattle.flux_conserve.proofs.Finer.{beside_is}
-use Rattle.flux_conserve.proofs.beside.block_beside.Goals as goal
+use Rattle.block_tree.specs.Beside.{beside_on}
+use Rattle.block_tree.proofs.BlocksBeside.{beside_is}
+use Rattle.block_tree.proofs.beside.block_beside.Goals as goal
 
 in_words : (p q high : Bool) (m n x y : ℕ) (r o : Option ℕ) → r ≡ beside_on p high m x → p ≡ q → m ≡ n → x ≡ y → r ≡ o → beside_on q high n y ≡ o
 in_words p q high m n x y r o is ep em ex eo = ap₂ (λ u v. beside_on u high v y) (sym ep) (sym em) ∙ ap (beside_on p high m) (sym ex) ∙ sym is ∙ eo

@@ -1,4 +1,4 @@
--- The split block beside a block.
+-- The block beside a block, and where it is split.
 use Rattle.std.proofs.Common.{◌≡◌, ℕ, ◌*◌, ◌^◌, Bool, true, false, Option, Some, None, sym, ap, ◌∙◌}
 use Rattle.std.specs.Prelude.{if◌then◌else◌}
 use Rattle.amr_num.specs.declared.Axis.{Axis}
@@ -12,7 +12,7 @@ use Rattle.mesh_model.specs.Tree.ValidGrid.{Valid}
 use Rattle.mesh_model.proofs.TreeLemmas.Nodes.{in_node}
 use Rattle.mesh_model.proofs.TreeLemmas.Tests.{refuted}
 use Rattle.mesh_model.proofs.TreeLemmas.Tiling.{split_says}
-use Rattle.flux_conserve.specs.Jumps.{beside_on, block_beside, block_moved, finer_beside, if_split}
+use Rattle.block_tree.specs.Beside.{beside_on, block_beside, block_moved, finer_beside, if_split}
 
 -- the block beside, by the coordinate beside
 pub beside_is : (s : Shape) (a : Axis) (high : Bool) (b : BlockAt) (o : Option ℕ) → beside_on (is_periodic s a) high (roots s a * 2 ^ b.level) (block_on a b) ≡ o → block_moved a o b ≡ block_beside s a high b

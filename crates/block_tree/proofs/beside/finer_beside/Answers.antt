@@ -10,10 +10,9 @@ use Rattle.block_tree.proofs.Facts.{known}
 use Rattle.block_tree.proofs.Leaves.{split_leaf}
 use Rattle.block_tree.proofs.Numbers.{splits}
 use Rattle.mesh_model.proofs.TreeLemmas.Tests.{refuted}
-use Rattle.flux_conserve.specs.Jumps.{block_beside, finer_beside}
-use Rattle.flux_conserve.specs.Work.{IsFinerNode}
-use Rattle.flux_conserve.proofs.Finer.{no_split, none_beside, split_beside, whole_beside}
-use Rattle.flux_conserve.proofs.beside.finer_beside.Goals as goal
+use Rattle.block_tree.specs.Beside.{IsFinerNode, block_beside, finer_beside}
+use Rattle.block_tree.proofs.BlocksBeside.{no_split, none_beside, split_beside, whole_beside}
+use Rattle.block_tree.proofs.beside.finer_beside.Goals as goal
 
 -- what was found beside, in the words of the grid's shape
 in_shape : (s shape : Shape) (a : Axis) (high : Bool) (b : BlockAt) (r o : Option BlockAt) → s ≡ shape → r ≡ block_beside s a high b → r ≡ o → block_beside shape a high b ≡ o

@@ -1,23 +1,23 @@
-//! What stands beside a block.
+//! Blocks side by side.
 
 ghost use Rattle.block_tree.specs.GridOf.{grid_of};
 ghost use Rattle.block_tree.specs.Numbered.{IsNode, block_at};
-ghost use Rattle.flux_conserve.specs.Jumps as jumps;
-ghost use Rattle.flux_conserve.specs.Work.{IsFinerNode};
+ghost use Rattle.block_tree.specs.Beside as blocks;
+ghost use Rattle.block_tree.specs.Beside.{IsFinerNode};
 ghost use Rattle.mesh_model.specs.Geometry.Blocks.{InDomain};
 ghost use Rattle.mesh_model.specs.Geometry.Coordinates as coordinates;
 ghost use Rattle.mesh_model.specs.Geometry.Limits.{IsShape};
 ghost use Rattle.std.specs.Prelude.{◌≡◌, ◌*◌, ◌^◌, ◌<◌, ◌≤◌, MatchOption, None};
 
+use crate::tree::Tree;
 use amr_num::{Axis, BlockAt};
-use block_tree::Tree;
 use mesh_model::Shape;
 use mesh_model::geometry::axes::{block_on, is_periodic, roots};
 use mesh_model::geometry::{above, below};
 
 /// `b` with another coordinate on an axis.
 fn block_with(axis: Axis, coordinate: u32, b: BlockAt) -> BlockAt
-    ensures { result ≡ jumps.block_with axis coordinate b }
+    ensures { result ≡ blocks.block_with axis coordinate b }
 {
     match axis {
         Axis::X => BlockAt { x: coordinate, ..b },
@@ -29,7 +29,7 @@ fn block_with(axis: Axis, coordinate: u32, b: BlockAt) -> BlockAt
 /// The coordinate beside one on an axis of `many` blocks.
 fn coordinate_beside(periodic: bool, high: bool, many: u32, at: u32) -> Option<u32>
     requires { at < many }
-    ensures { result ≡ jumps.beside_on periodic high many at }
+    ensures { result ≡ blocks.beside_on periodic high many at }
 {
     if high {
         above(periodic, many, at + 1)
@@ -49,10 +49,10 @@ fn blocks_on(shape: &Shape, axis: Axis, level: u32) -> u32
 
 /// The block of the same level beside `b` on the low or the high side of an axis, wrapped on a periodic one. `None`
 /// exactly where that is a side of the domain.
-fn block_beside(shape: &Shape, axis: Axis, high: bool, b: BlockAt) -> Option<BlockAt>
+pub fn block_beside(shape: &Shape, axis: Axis, high: bool, b: BlockAt) -> Option<BlockAt>
     requires shape { IsShape shape.now }
     requires inside { InDomain shape.now b }
-    ensures { result ≡ jumps.block_beside shape.now axis high b }
+    ensures { result ≡ blocks.block_beside shape.now axis high b }
 {
     let many = blocks_on(shape, axis, b.level);
     match coordinate_beside(is_periodic(shape, axis), high, many, block_on(axis, b)) {
@@ -63,9 +63,9 @@ fn block_beside(shape: &Shape, axis: Axis, high: bool, b: BlockAt) -> Option<Blo
 
 /// The split node beside a block on the low or the high side of an axis, wrapped on a periodic one. `None` exactly where
 /// no finer leaves stand there.
-pub(crate) fn finer_beside(tree: &Tree, axis: Axis, high: bool, b: BlockAt) -> Option<u32>
+pub fn finer_beside(tree: &Tree, axis: Axis, high: bool, b: BlockAt) -> Option<u32>
     requires { InDomain (grid_of tree.now).shape b }
-    ensures { MatchOption result (jumps.finer_beside (grid_of tree.now) axis high b ≡ None) (IsFinerNode (grid_of tree.now) axis high b) }
+    ensures { MatchOption result (blocks.finer_beside (grid_of tree.now) axis high b ≡ None) (IsFinerNode (grid_of tree.now) axis high b) }
 {
     let block = block_beside(&tree.shape(), axis, high, b)?;
     let node = tree.node_at(block)?;

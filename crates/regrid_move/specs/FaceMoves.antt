@@ -1,0 +1,82 @@
+-- The faces of new leaves, from those of old ones.
+use Rattle.std.specs.Prelude.{◌≡◌, ℕ, ◌<◌, ◌^◌, Option, None, Some, ◌&&◌, if◌then◌else◌, ℤ}
+use Rattle.std.specs.Option.{option_or}
+use Rattle.amr_num.specs.declared.Axis.{Axis}
+use Rattle.amr_num.specs.declared.Axis.TheVariants.{X, Y, Z}
+use Rattle.amr_num.specs.declared.BlockAt.{BlockAt}
+use Rattle.amr_num.specs.declared.FaceAt.{FaceAt}
+use Rattle.mesh_model.specs.Geometry.Canonical.{canonical_on}
+use Rattle.mesh_model.specs.Geometry.Coordinates.{face_of}
+use Rattle.mesh_model.specs.Geometry.Places.{in_block, longer_on}
+use Rattle.mesh_model.specs.Tree.Kinds.{Grid, is_leaf_block, is_leaf_face}
+use Rattle.mesh_model.specs.Fields.ArrayPlaces.{HoldsFaces}
+use Rattle.mesh_model.specs.Fields.Arrays.{array_in}
+use Rattle.mesh_model.specs.Fields.FinePlaces.{FaceOctantHolds, faces_in}
+use Rattle.mesh_model.specs.Fields.Firsts.{first_below, first_in_places}
+use Rattle.mesh_model.specs.Fields.RangeWalk.{is_above}
+use Rattle.mesh_model.specs.Fields.Ranks.{IsFit, WorldState, rank_at}
+use Rattle.mesh_model.specs.Fields.Views.{face_view}
+use Rattle.mesh_model.specs.declared.fields.values.Var.{Var}
+use Rattle.mesh_model.specs.declared.fields.values.Var.TheVariants.{Face}
+use Rattle.mesh_model.specs.declared.fields.values.Group.TheVariants as groups
+use Rattle.mesh_model.specs.declared.fields.spot.RangeStop.{RangeStop}
+use Rattle.mesh_model.specs.declared.fields.spot.Spot.TheVariants as spots
+use Rattle.block_tree.specs.Numbered.{block_at}
+use Rattle.rank_world.specs.Holding.{IsLeafNode, IsOfValidMesh, face_array}
+
+-- the face variable of the old world may be moved into a leaf of the new one
+pub record MayMoveFaces (n g : ℕ) (old new : WorldState) (node : ℕ) : Type 0 where
+  pub old_fit : IsFit n g old
+  pub new_fit : IsFit n g new
+  pub declared : 0 < old.told.counts.faces
+  pub counts : new.told.counts ≡ old.told.counts
+  pub shape : new.told.grid.shape ≡ old.told.grid.shape
+  pub mesh : IsOfValidMesh old
+  pub leaf : IsLeafNode new.told.grid node
+
+-- the faces of one node may have other numbers, and all else is as it was
+pub record OnlyFacesOf (old new : WorldState) (node : ℕ) : Type 0 where
+  pub told : new.told ≡ old.told
+  pub others : (u : Var) (at : ℕ) → ((a : Axis) → u ≡ Face a → at ≡ node → ⊥) → array_in (rank_at new 0).own.values u at ≡ array_in (rank_at old 0).own.values u at
+
+-- those of all nodes may
+pub record OnlyFaces (old new : WorldState) : Type 0 where
+  pub told : new.told ≡ old.told
+  pub others : (u : Var) (at : ℕ) → ((a : Axis) → u ≡ Face a → ⊥) → array_in (rank_at new 0).own.values u at ≡ array_in (rank_at old 0).own.values u at
+
+-- the faces of the node normal to an axis hold the old grid's views of a field, or those of its octant q do
+abbrev pub AxisMoved : WorldState → WorldState → (FaceAt → ℤ) → ℕ → Axis → Type 0
+AxisMoved old new field node a = HoldsFaces old.told.grid field a (block_at new.told.grid node) (faces_in old.told.grid a (face_array new a node))
+
+abbrev pub AxisOctantMoved : WorldState → WorldState → (FaceAt → ℤ) → ℕ → ℕ → Axis → Type 0
+AxisOctantMoved old new field node q a = FaceOctantHolds old.told.grid field a (block_at new.told.grid node) q (faces_in old.told.grid a (face_array new a node))
+
+-- so do those normal to each axis; so do those of each leaf
+abbrev pub FacesMoved : WorldState → WorldState → (FaceAt → ℤ) → ℕ → Type 0
+FacesMoved old new field node = (a : Axis) → AxisMoved old new field node a
+
+abbrev pub LeafFacesMoved : WorldState → WorldState → (FaceAt → ℤ) → Type 0
+LeafFacesMoved old new field = (node : ℕ) → IsLeafNode new.told.grid node → FacesMoved old new field node
+
+-- ---- views out of range
+
+-- what is told of the old view of a leaf face of the new grid, where it is above 2^40 in absolute value
+abbrev pub face_stop : Grid → Grid → (FaceAt → ℤ) → FaceAt → Option RangeStop
+face_stop old new field f =
+    if is_leaf_face new f && is_above (2 ^ 40) (face_view old field f) then Some (record { var = groups.Face; spot = spots.Face f; value = face_view old field f }) else None
+
+-- of the first such face of a block normal to an axis, and of the first of all
+abbrev pub axis_stop : Grid → Grid → (FaceAt → ℤ) → BlockAt → Axis → Option RangeStop
+axis_stop old new field b a =
+    let n = new.shape.n in
+    first_in_places (longer_on a X n) (longer_on a Y n) (longer_on a Z n) (λ i j k. face_stop old new field (face_of a (canonical_on new.shape a (in_block n b i j k))))
+
+abbrev pub block_face_stop : Grid → Grid → (FaceAt → ℤ) → BlockAt → Option RangeStop
+block_face_stop old new field b = option_or (axis_stop old new field b X) (option_or (axis_stop old new field b Y) (axis_stop old new field b Z))
+
+-- in a node of the new grid where that is a leaf, and in the walk over the leaves
+abbrev pub node_face_stop : Grid → Grid → (FaceAt → ℤ) → ℕ → Option RangeStop
+node_face_stop old new field node = if is_leaf_block new (block_at new node) then block_face_stop old new field (block_at new node) else None
+
+abbrev pub faces_stop : Grid → Grid → (FaceAt → ℤ) → ℕ → Option RangeStop
+faces_stop old new field count = first_below count (node_face_stop old new field)
