@@ -4,8 +4,9 @@ use Rattle.amr_num.specs.declared.Axis.{Axis}
 use Rattle.amr_num.specs.declared.Axis.TheVariants.{X, Y, Z}
 use Rattle.amr_num.specs.Numbers.{Within}
 use Rattle.mesh_model.specs.Geometry.Places.{longer_on}
-use Rattle.mesh_model.specs.Fields.ArrayPlaces.{Box, IsInBox, face_extents, number_at}
+use Rattle.mesh_model.specs.Fields.ArrayPlaces.{Box, Extents, IsInBox, face_extents, number_at}
 use Rattle.mesh_model.specs.Fields.FaceSplits.{face_box, face_part, is_kept_side, position}
+use Rattle.mesh_model.specs.Fields.InnerRule.{Outer}
 use Rattle.mesh_model.specs.Fields.Views.{is_even}
 
 -- a face at a position on its axis is a part of the parent's
@@ -21,11 +22,18 @@ pub record EvenAreSmall (n g : ℕ) (faces : Axis → ℕ → ℕ → ℕ → �
   pub at : (a : Axis) (i j k : ℕ) → i < longer_on a X n → j < longer_on a Y n → k < longer_on a Z n → is_even (position a i j k) ≡ true →
       Within (2 ^ 40) (faces a (g + i) (g + j) (g + k))
 
--- the four faces normal to an axis between the octants of the cell whose first sub-cell stands at a place
+-- four faces side by side by quarter: how many there are along each axis, and where they stand from a place on
+abbrev pub four_extents : Axis → Extents
+four_extents X = record { x = 1; y = 2; z = 2 }
+four_extents Y = record { x = 2; y = 1; z = 2 }
+four_extents Z = record { x = 2; y = 2; z = 1 }
+
+abbrev pub four_box : Axis → ℕ → ℕ → ℕ → Box
+four_box a x y z = record { x = x; y = y; z = z; along_x = (four_extents a).x; along_y = (four_extents a).y; along_z = (four_extents a).z }
+
+-- the four normal to an axis between the octants of the cell whose first sub-cell stands at a place
 abbrev pub middle_box : Axis → ℕ → ℕ → ℕ → Box
-middle_box X x y z = record { x = x + 1; y = y; z = z; along_x = 1; along_y = 2; along_z = 2 }
-middle_box Y x y z = record { x = x; y = y + 1; z = z; along_x = 2; along_y = 1; along_z = 2 }
-middle_box Z x y z = record { x = x; y = y; z = z + 1; along_x = 2; along_y = 2; along_z = 1 }
+middle_box a x y z = four_box a (longer_on a X x) (longer_on a Y y) (longer_on a Z z)
 
 -- which cell of the parent's octant, of h cells along each axis, a face lies in
 abbrev pub cell_number : ℕ → ℕ → ℕ → ℕ → ℕ
@@ -39,3 +47,21 @@ pub record AreBetween (m n g : ℕ) (a : Axis) (wanted : ℕ → ℕ → ℕ →
   pub waits : (i j k : ℕ) → i < longer_on a X n → j < longer_on a Y n → k < longer_on a Z n → (is_even (position a i j k) ≡ true) ⊎ (m ≤ cell_number (n / 2) i j k) →
       number_at (face_extents n g a) new (g + i) (g + j) (g + k) ≡ number_at (face_extents n g a) old (g + i) (g + j) (g + k)
   pub stays : (i j k : ℕ) → let e = face_extents n g a in i < e.x → j < e.y → k < e.z → (IsInBox (face_box n g a) i j k → ⊥) → number_at e new i j k ≡ number_at e old i j k
+
+-- the same numbers stand on the sides of two cells, by quarter
+pub record AreSides (o p : Outer) : Type 0 where
+  pub x_low : (q : ℕ) → q < 4 → o.x_low q ≡ p.x_low q
+  pub x_high : (q : ℕ) → q < 4 → o.x_high q ≡ p.x_high q
+  pub y_low : (q : ℕ) → q < 4 → o.y_low q ≡ p.y_low q
+  pub y_high : (q : ℕ) → q < 4 → o.y_high q ≡ p.y_high q
+  pub z_low : (q : ℕ) → q < 4 → o.z_low q ≡ p.z_low q
+  pub z_high : (q : ℕ) → q < 4 → o.z_high q ≡ p.z_high q
+
+-- and all of them are in range
+pub record SidesAreSmall (o : Outer) : Type 0 where
+  pub x_low : (q : ℕ) → q < 4 → Within (2 ^ 40) (o.x_low q)
+  pub x_high : (q : ℕ) → q < 4 → Within (2 ^ 40) (o.x_high q)
+  pub y_low : (q : ℕ) → q < 4 → Within (2 ^ 40) (o.y_low q)
+  pub y_high : (q : ℕ) → q < 4 → Within (2 ^ 40) (o.y_high q)
+  pub z_low : (q : ℕ) → q < 4 → Within (2 ^ 40) (o.z_low q)
+  pub z_high : (q : ℕ) → q < 4 → Within (2 ^ 40) (o.z_high q)

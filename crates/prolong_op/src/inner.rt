@@ -31,17 +31,19 @@ pub struct Inner {
 /// the cell, in each x half the middle y faces balance the low y quarter, and each middle z face balances the octant below
 /// it. The numbers on the sides are at most [`amr_num::RANGE`] in absolute value.
 pub fn inner_faces(outer: &Outer) -> Inner
-    requires { AreSmall outer.now }
+    requires small { AreSmall outer.now }
     ensures x { (q : ℕ) → q < 4 → at result.x q ≡ middle_x (sides_of outer.now) q }
     ensures y { (i k : ℕ) → i < 2 → k < 2 → at result.y (i + 2 * k) ≡ middle_y (sides_of outer.now) i k }
     ensures z { (i j : ℕ) → i < 2 → j < 2 → at result.z (i + 2 * j) ≡ middle_z (sides_of outer.now) i j }
     ensures small { FourWithin (2 ^ 46) result.x × FourWithin (2 ^ 46) result.y × FourWithin (2 ^ 46) result.z }
 {
     let x = middle_x_faces(outer);
-    let low = middle_y_faces(outer, outer.x_low, x, 0);
-    let high = middle_y_faces(outer, x, outer.x_high, 1);
-    let y = [low[0], high[0], low[1], high[1]];
-    let z = middle_z_faces(outer, x, y);
+    let low = outflow(outer.x_low, x);
+    let high = outflow(x, outer.x_high);
+    let [a, b] = middle_y_faces(outer, low, 0);
+    let [c, d] = middle_y_faces(outer, high, 1);
+    let y = [a, c, b, d];
+    let z = middle_z_faces(outer, low, high, y);
     Inner { x, y, z }
 }
 
@@ -85,15 +87,29 @@ fn four(xs: [i64; 4]) -> i64
     plus(plus(plus(xs[0], xs[1]), xs[2]), xs[3])
 }
 
-/// What flows out of the faces `p` and `q` of a high side, less what flows in through those of the low side.
-fn net(low: [i64; 4], high: [i64; 4], p: usize, q: usize) -> i64
+/// The sum of two of four numbers.
+fn two(xs: [i64; 4], p: usize, q: usize) -> i64
     requires places { (p < 4) × (q < 4) }
+    requires small { FourWithin (2 ^ 48) xs }
+    ensures value { result ≡ at xs p +ℤ at xs q }
+    ensures size { (m : ℕ) → FourWithin m xs → Within (m + m) result }
+{
+    plus(xs[p], xs[q])
+}
+
+/// What flows out of each quarter of a high side, less what flows in through that of the low side.
+fn outflow(low: [i64; 4], high: [i64; 4]) -> [i64; 4]
     requires low { FourWithin (2 ^ 46) low }
     requires high { FourWithin (2 ^ 46) high }
-    ensures value { result ≡ (at high p -ℤ at low p) +ℤ (at high q -ℤ at low q) }
-    ensures size { (m k : ℕ) → FourWithin m low → FourWithin k high → Within (k + m + (k + m)) result }
+    ensures value { (q : ℕ) → q < 4 → at result q ≡ at high q -ℤ at low q }
+    ensures size { (m k : ℕ) → FourWithin m high → FourWithin k low → FourWithin (m + k) result }
 {
-    plus(less(high[p], low[p]), less(high[q], low[q]))
+    [
+        less(high[0], low[0]),
+        less(high[1], low[1]),
+        less(high[2], low[2]),
+        less(high[3], low[3]),
+    ]
 }
 
 /// The floored means of four pairs.
@@ -102,6 +118,7 @@ fn means(low: [i64; 4], high: [i64; 4]) -> [i64; 4]
     requires high { FourWithin (2 ^ 40) high }
     ensures value { (q : ℕ) → q < 4 → at result q ≡ floor_div (at low q +ℤ at high q) 2 }
     ensures small { All (Within (2 ^ 40)) result }
+    ensures each { FourWithin (2 ^ 40) result }
 {
     [
         mean2(low[0], high[0]),
@@ -111,75 +128,90 @@ fn means(low: [i64; 4], high: [i64; 4]) -> [i64; 4]
     ]
 }
 
+/// The total of the middle x faces: what flows into the low x half through its other sides.
+fn half_total(outer: &Outer) -> i64
+    requires small { AreSmall outer.now }
+    ensures value { result ≡ at outer.now.x_low 0 +ℤ at outer.now.x_low 1 +ℤ at outer.now.x_low 2 +ℤ at outer.now.x_low 3
+        -ℤ ((at outer.now.y_high 0 -ℤ at outer.now.y_low 0) +ℤ (at outer.now.y_high 2 -ℤ at outer.now.y_low 2))
+        -ℤ ((at outer.now.z_high 0 -ℤ at outer.now.z_low 0) +ℤ (at outer.now.z_high 2 -ℤ at outer.now.z_low 2)) }
+    ensures small { Within (12 * 2 ^ 40) result }
+{
+    less_two(
+        four(outer.x_low),
+        two(outflow(outer.y_low, outer.y_high), 0, 2),
+        two(outflow(outer.z_low, outer.z_high), 0, 2),
+    )
+}
+
 /// The four middle x faces.
 fn middle_x_faces(outer: &Outer) -> [i64; 4]
-    requires { AreSmall outer.now }
+    requires small { AreSmall outer.now }
     ensures value { (q : ℕ) → q < 4 → at result q ≡ middle_x (sides_of outer.now) q }
     ensures small { FourWithin (17 * 2 ^ 40) result }
 {
-    let total = less_two(
-        four(outer.x_low),
-        net(outer.y_low, outer.y_high, 0, 2),
-        net(outer.z_low, outer.z_high, 0, 2),
-    );
-    spread4(total, means(outer.x_low, outer.x_high))
+    spread4(half_total(outer), means(outer.x_low, outer.x_high))
 }
 
-/// The two middle y faces of the x half `i`, between the x faces `x_low` and `x_high`.
-fn middle_y_faces(outer: &Outer, x_low: [i64; 4], x_high: [i64; 4], i: usize) -> [i64; 2]
-    requires { AreSmall outer.now }
+/// The total of the middle y faces of the x half `i`, where `x` is what flows out of it on x: what flows into its low y
+/// quarter through its other sides.
+fn quarter_total(outer: &Outer, x: [i64; 4], i: usize) -> i64
+    requires small { AreSmall outer.now }
     requires half { i < 2 }
-    requires x_low { FourWithin (17 * 2 ^ 40) x_low }
-    requires x_high { FourWithin (17 * 2 ^ 40) x_high }
-    ensures value { (k : ℕ) → k < 2 → at result k ≡ spread 2
-        (sum_below 2 (λ k. at outer.now.y_low (i + 2 * k)) -ℤ sum_below 2 (λ k. at x_high (2 * k) -ℤ at x_low (2 * k)) -ℤ (at outer.now.z_high i -ℤ at outer.now.z_low i))
-        (λ k. floor_div (at outer.now.y_low (i + 2 * k) +ℤ at outer.now.y_high (i + 2 * k)) 2) k }
-    ensures small { (k : ℕ) → k < 2 → Within (75 * 2 ^ 40) (at result k) }
+    requires x { FourWithin (18 * 2 ^ 40) x }
+    ensures value { result ≡ at outer.now.y_low i +ℤ at outer.now.y_low (i + 2) -ℤ (at x 0 +ℤ at x 2) -ℤ (at outer.now.z_high i -ℤ at outer.now.z_low i) }
+    ensures small { Within (40 * 2 ^ 40) result }
 {
-    let total = less_two(
-        plus(outer.y_low[i], outer.y_low[i + 2]),
-        net(x_low, x_high, 0, 2),
+    less_two(
+        two(outer.y_low, i, i + 2),
+        two(x, 0, 2),
         less(outer.z_high[i], outer.z_low[i]),
-    );
+    )
+}
+
+/// The two middle y faces of the x half `i`, where `x` is what flows out of it on x.
+fn middle_y_faces(outer: &Outer, x: [i64; 4], i: usize) -> [i64; 2]
+    requires small { AreSmall outer.now }
+    requires half { i < 2 }
+    requires x { FourWithin (18 * 2 ^ 40) x }
+    ensures value { (k : ℕ) → k < 2 → at result k ≡ spread 2
+        (sum_below 2 (λ k. at outer.now.y_low (i + 2 * k)) -ℤ sum_below 2 (λ k. at x (2 * k)) -ℤ (at outer.now.z_high i -ℤ at outer.now.z_low i))
+        (λ k. floor_div (at outer.now.y_low (i + 2 * k) +ℤ at outer.now.y_high (i + 2 * k)) 2) k }
+    ensures small { (k : ℕ) → k < 2 → Within (43 * 2 ^ 40) (at result k) }
+{
     let guides = means(outer.y_low, outer.y_high);
-    spread2(total, [guides[i], guides[i + 2]])
+    spread2(quarter_total(outer, x, i), [guides[i], guides[i + 2]])
 }
 
-/// What the octant below a middle z face leaves it: the number at the octant's low z side, without what flows out of the
-/// octant on x and on y.
-fn left_over(z_low: i64, x_low: i64, x_high: i64, y_low: i64, y_high: i64) -> i64
-    requires z { Within (2 ^ 40) z_low }
-    requires x { Within (17 * 2 ^ 40) x_low × Within (17 * 2 ^ 40) x_high }
-    requires y { Within (75 * 2 ^ 40) y_low × Within (75 * 2 ^ 40) y_high }
-    ensures value { result ≡ z_low -ℤ (x_high -ℤ x_low) -ℤ (y_high -ℤ y_low) }
-    ensures small { Within (185 * 2 ^ 40) result }
+/// The number `p` of the low z side, without what flows out at `j` on x and at `i` on y.
+fn left_over(z: [i64; 4], p: usize, x: [i64; 4], j: usize, y: [i64; 4], i: usize) -> i64
+    requires places { (p < 4) × (j < 4) × (i < 4) }
+    requires z { FourWithin (2 ^ 40) z }
+    requires x { FourWithin (18 * 2 ^ 40) x }
+    requires y { FourWithin (44 * 2 ^ 40) y }
+    ensures value { result ≡ at z p -ℤ at x j -ℤ at y i }
+    ensures small { Within (63 * 2 ^ 40) result }
 {
-    less_two(z_low, less(x_high, x_low), less(y_high, y_low))
+    less_two(z[p], x[j], y[i])
 }
 
-/// The four middle z faces, from the middle x and y faces.
-fn middle_z_faces(outer: &Outer, x: [i64; 4], y: [i64; 4]) -> [i64; 4]
-    requires { AreSmall outer.now }
-    requires x { FourWithin (17 * 2 ^ 40) x }
-    requires y { FourWithin (75 * 2 ^ 40) y }
-    ensures first { at result 0 ≡ at outer.now.z_low 0 -ℤ (at x 0 -ℤ at outer.now.x_low 0) -ℤ (at y 0 -ℤ at outer.now.y_low 0) }
-    ensures second { at result 1 ≡ at outer.now.z_low 1 -ℤ (at outer.now.x_high 0 -ℤ at x 0) -ℤ (at y 1 -ℤ at outer.now.y_low 1) }
-    ensures third { at result 2 ≡ at outer.now.z_low 2 -ℤ (at x 1 -ℤ at outer.now.x_low 1) -ℤ (at outer.now.y_high 0 -ℤ at y 0) }
-    ensures fourth { at result 3 ≡ at outer.now.z_low 3 -ℤ (at outer.now.x_high 1 -ℤ at x 1) -ℤ (at outer.now.y_high 1 -ℤ at y 1) }
-    ensures small { FourWithin (185 * 2 ^ 40) result }
+/// The four middle z faces, from the middle y faces and what flows out of the low and of the high x half on x.
+fn middle_z_faces(outer: &Outer, low: [i64; 4], high: [i64; 4], y: [i64; 4]) -> [i64; 4]
+    requires small { AreSmall outer.now }
+    requires low { FourWithin (18 * 2 ^ 40) low }
+    requires high { FourWithin (18 * 2 ^ 40) high }
+    requires y { FourWithin (43 * 2 ^ 40) y }
+    ensures first { at result 0 ≡ at outer.now.z_low 0 -ℤ at low 0 -ℤ (at y 0 -ℤ at outer.now.y_low 0) }
+    ensures second { at result 1 ≡ at outer.now.z_low 1 -ℤ at high 0 -ℤ (at y 1 -ℤ at outer.now.y_low 1) }
+    ensures third { at result 2 ≡ at outer.now.z_low 2 -ℤ at low 1 -ℤ (at outer.now.y_high 0 -ℤ at y 0) }
+    ensures fourth { at result 3 ≡ at outer.now.z_low 3 -ℤ at high 1 -ℤ (at outer.now.y_high 1 -ℤ at y 1) }
+    ensures small { FourWithin (63 * 2 ^ 40) result }
 {
-    let Outer {
-        x_low,
-        x_high,
-        y_low,
-        y_high,
-        z_low,
-        z_high: _,
-    } = *outer;
+    let near = outflow(outer.y_low, y);
+    let far = outflow(y, outer.y_high);
     [
-        left_over(z_low[0], x_low[0], x[0], y_low[0], y[0]),
-        left_over(z_low[1], x[0], x_high[0], y_low[1], y[1]),
-        left_over(z_low[2], x_low[1], x[1], y[0], y_high[0]),
-        left_over(z_low[3], x[1], x_high[1], y[1], y_high[1]),
+        left_over(outer.z_low, 0, low, 0, near, 0),
+        left_over(outer.z_low, 1, high, 0, near, 1),
+        left_over(outer.z_low, 2, low, 1, far, 0),
+        left_over(outer.z_low, 3, high, 1, far, 1),
     ]
 }
