@@ -1,7 +1,7 @@
-//! Parts of cells and of faces that are worked by hand.
+//! Parts of cells that are worked by hand.
 
 use crate::laws::children_hold_views;
-use crate::{Outer, inner_faces, split_cells};
+use crate::split_cells;
 
 #[test]
 fn one_cell_makes_eight(rt: HostRuntime) {
@@ -21,19 +21,4 @@ fn one_cell_makes_eight(rt: HostRuntime) {
     assert_eq!(rt; child[3 + 6 + 36], 0);
     assert_eq!(rt; child[6 + 36], 7);
     children_hold_views();
-}
-
-#[test]
-fn octants_balance(rt: HostRuntime) {
-    let inner = inner_faces(&Outer {
-        x_low: [3, 1, 0, 1],
-        x_high: [1, 0, 0, 0],
-        y_low: [0, 0, 0, 0],
-        y_high: [1, 0, 0, 2],
-        z_low: [0, 0, 0, 0],
-        z_high: [0, 1, 0, 0],
-    });
-    assert_eq!(rt; inner.x, [3, 1, 0, 0]);
-    assert_eq!(rt; inner.y, [0, 0, 0, 1]);
-    assert_eq!(rt; inner.z, [0, 2, -1, 1]);
 }

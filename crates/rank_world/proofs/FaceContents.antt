@@ -41,7 +41,7 @@ inside_wrapped : (b : Bool) (e p : ℕ) → p < e → wrapped b e p ≡ p
 inside_wrapped b e zero h = zero_wrapped b e
 inside_wrapped b e (suc q) h = wrapped_before b e q h
 
-canonical_inside : (s : Shape) (a : Axis) (c : CellAt) → Inside s c → canonical_on s a c ≡ c
+pub canonical_inside : (s : Shape) (a : Axis) (c : CellAt) → Inside s c → canonical_on s a c ≡ c
 canonical_inside s a c i = ap (λ p. with a p c) (inside_wrapped (is_periodic s a) (extent s a c.level) (on a c) (i a)) ∙ with_own a c
 
 -- the cell above a face is the one of the face's numbers
@@ -129,7 +129,7 @@ face_place Y h n c low some = omega (arith, low, some)
 face_place Z h n c low some = omega (arith, low, some)
 
 -- the next face on an axis, by its canonical name
-after_is : (s : Shape) (a : Axis) (c : CellAt) → canonical_on s a (with a (suc (on a c)) c) ≡ after s a c
+pub after_is : (s : Shape) (a : Axis) (c : CellAt) → canonical_on s a (with a (suc (on a c)) c) ≡ after s a c
 after_is s a c =
     ap₂ (λ l p. with a (wrapped (is_periodic s a) (extent s a l) p) (with a (suc (on a c)) c)) (with_level a (suc (on a c)) c) (on_with a (suc (on a c)) c)
     ∙ with_with a (wrapped (is_periodic s a) (extent s a c.level) (suc (on a c))) (suc (on a c)) c

@@ -3,3 +3,4 @@ pub mod Slotted
 pub mod Contents
 pub mod FaceContents
 pub mod Puts
+pub mod FaceBlocks

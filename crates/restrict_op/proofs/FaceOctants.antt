@@ -95,7 +95,7 @@ fine_below n half many i d size along less none h =
     ]
 
 -- a half's place lies in the block
-whole_below : (n half many r i : ℕ) → (n ≡ 4) ⊎ (n ≡ 8) → Along n half many → i < half → half_at n r + i < many
+pub whole_below : (n half many r i : ℕ) → (n ≡ 4) ⊎ (n ≡ 8) → Along n half many → i < half → half_at n r + i < many
 whole_below n half many r i size along h =
     let room : n / 2 * (r % 2) + n / 2 ≤ n = by_size (λ m. m / 2 * (r % 2) + m / 2 ≤ m) n size (omega arith) (omega arith) in
     elim along [ inl cells ↦ (let a = cells.0 in let b = cells.1 in omega arith) | inr positions ↦ (let a = positions.0 in let b = positions.1 in omega arith) ]
@@ -170,11 +170,11 @@ longer_side n e Y = (λ u i h. omega arith, λ u i h. omega arith, λ u i h. ome
 longer_side n e Z = (λ u i h. omega arith, λ u i h. omega arith, λ u i h. omega arith)
 
 module _ (g : Grid) (field : FaceAt → ℤ) (a : Axis) (b : BlockAt) (valid : Valid g) where
-  abbrev name : ℕ → ℕ → ℕ → FaceAt
+  abbrev pub name : ℕ → ℕ → ℕ → FaceAt
   name u v w = face_of a (canonical_on g.shape a (in_block g.shape.n b u v w))
 
   -- four faces of a child that holds views make the view of the face round them
-  four_view : (q : ℕ) (child : List ℤ) → HoldsFaces g field a (child_block b q) (faces_in g a child) → (i j k : ℕ) →
+  pub four_view : (q : ℕ) (child : List ℤ) → HoldsFaces g field a (child_block b q) (faces_in g a child) → (i j k : ℕ) →
       i < longer_on a X (g.shape.n / 2) → j < longer_on a Y (g.shape.n / 2) → k < longer_on a Z (g.shape.n / 2) →
       fine_summed g.shape.g (Face a) (faces_in g a child) i j k
       ≡ face_view g field (name (half_at g.shape.n q + i) (half_at g.shape.n (q / 2) + j) (half_at g.shape.n (q / 4) + k))
