@@ -307,7 +307,7 @@ module _ (g : Grid) (valid : Valid g) (a : Axis) (high : Bool) (b d : BlockAt) (
   child_is = ap (λ e. child_block e (octant_on a (side_half (not high)) q)) (sym there.block) ∙ child_half a b there.at (side_half (not high)) q (half_less (not high))
 
   -- beyond the child stands a child of the leaf
-  back_again : block_beside g.shape a (not high) (child_beside a high q d) ≡ Some (child_block b (octant_on a (side_half high) q))
+  pub back_again : block_beside g.shape a (not high) (child_beside a high q d) ≡ Some (child_block b (octant_on a (side_half high) q))
   back_again =
       ap (block_beside g.shape a (not high)) child_is
       ∙ beside_half g.shape a (not high) b (2 * there.at + side_half (not high)) q (Some (2 * block_on a b + side_half high))

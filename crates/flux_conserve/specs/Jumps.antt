@@ -1,5 +1,5 @@
 -- Jumps of level at the sides of blocks, and what the coarse faces there take of the finer ones.
-use Rattle.std.specs.Prelude.{◌≡◌, ℕ, suc, ◌+◌, ◌*◌, ◌/◌, ◌%◌, ◌^◌, ◌<◌, ◌≤◌, ◌==◌, Bool, true, false, not, if◌then◌else◌, Option, Some, None, ℤ}
+use Rattle.std.specs.Prelude.{◌≡◌, ℕ, suc, ◌+◌, ◌*◌, ◌/◌, ◌%◌, ◌^◌, ◌<◌, ◌≤◌, ◌==◌, Bool, true, false, not, ◌||◌, if◌then◌else◌, Option, Some, None, ℤ}
 use Rattle.amr_num.specs.declared.Axis.{Axis}
 use Rattle.amr_num.specs.declared.Axis.TheVariants.{X, Y, Z}
 use Rattle.amr_num.specs.declared.BlockAt.{BlockAt}
@@ -12,7 +12,7 @@ use Rattle.mesh_model.specs.Geometry.Coordinates.{above, below, face_of, is_peri
 use Rattle.mesh_model.specs.Geometry.Canonical.{canonical_on}
 use Rattle.mesh_model.specs.Geometry.Places.{in_block}
 use Rattle.mesh_model.specs.Geometry.Touch.{block_on}
-use Rattle.mesh_model.specs.Tree.Kinds.{Grid, is_split_block, is_split_face}
+use Rattle.mesh_model.specs.Tree.Kinds.{Grid, is_leaf_block, is_split_block, is_split_face}
 
 -- ---- fields
 
@@ -49,6 +49,23 @@ if_split g (Some d) = if is_split_block g d then Some d else None
 -- the split block beside b: there is one exactly where finer leaves stand on that side
 unfoldable pub finer_beside : Grid → Axis → Bool → BlockAt → Option BlockAt
 finer_beside g a high b = if_split g (block_beside g.shape a high b)
+
+-- a block is there, and is no leaf
+abbrev pub is_no_leaf : Grid → Option BlockAt → Bool
+is_no_leaf g None = false
+is_no_leaf g (Some d) = not (is_leaf_block g d)
+
+-- the level jumps across a side of the leaf b: the block beside it is in the domain and no leaf, since finer leaves or a coarser one stand there
+unfoldable pub jumps_at : Grid → Axis → Bool → BlockAt → Bool
+jumps_at g a high b = is_no_leaf g (block_beside g.shape a high b)
+
+-- across one of its sides on an axis
+abbrev pub jumps_on : Grid → Axis → BlockAt → Bool
+jumps_on g a b = jumps_at g a false b || jumps_at g a true b
+
+-- across one of its sides
+unfoldable pub is_at_jump : Grid → BlockAt → Bool
+is_at_jump g b = (jumps_on g X b || jumps_on g Y b) || jumps_on g Z b
 
 -- ---- faces of blocks by places
 

@@ -7,6 +7,7 @@ ghost use Rattle.flux_conserve.specs.Work.{IsFinerNode};
 ghost use Rattle.mesh_model.specs.Geometry.Blocks.{InDomain};
 ghost use Rattle.mesh_model.specs.Geometry.Coordinates as coordinates;
 ghost use Rattle.mesh_model.specs.Geometry.Limits.{IsShape};
+ghost use Rattle.mesh_model.specs.Tree.Kinds.{is_leaf_block};
 ghost use Rattle.std.specs.Prelude.{◌≡◌, ◌*◌, ◌^◌, ◌<◌, ◌≤◌, MatchOption, None};
 
 use amr_num::{Axis, BlockAt};
@@ -70,4 +71,44 @@ pub(crate) fn finer_beside(tree: &Tree, axis: Axis, high: bool, b: BlockAt) -> O
     let block = block_beside(&tree.shape(), axis, high, b)?;
     let node = tree.node_at(block)?;
     if tree.is_leaf(node) { None } else { Some(node) }
+}
+
+/// Whether the block is a leaf.
+fn is_leaf(tree: &Tree, b: BlockAt) -> bool
+    ensures { result ≡ is_leaf_block (grid_of tree.now) b }
+{
+    match tree.leaf_at(b) {
+        Some(_) => true,
+        None => false,
+    }
+}
+
+/// Whether the level jumps across the low or the high side of a leaf on an axis: a coarser leaf or finer ones stand there.
+#[tactic(auto, unfolding(crate::specs::Jumps::jumps_at))]
+fn jumps_at(tree: &Tree, axis: Axis, high: bool, b: BlockAt) -> bool
+    requires { InDomain (grid_of tree.now).shape b }
+    ensures { result ≡ jumps.jumps_at (grid_of tree.now) axis high b }
+{
+    match block_beside(&tree.shape(), axis, high, b) {
+        Some(block) => !is_leaf(tree, block),
+        None => false,
+    }
+}
+
+/// Whether it jumps across one of its sides on an axis.
+fn jumps_on(tree: &Tree, axis: Axis, b: BlockAt) -> bool
+    requires { InDomain (grid_of tree.now).shape b }
+    ensures { result ≡ jumps.jumps_on (grid_of tree.now) axis b }
+{
+    jumps_at(tree, axis, false, b) || jumps_at(tree, axis, true, b)
+}
+
+/// Whether the level jumps across some side of a leaf: a coarser leaf or finer ones stand there, wrapped on a periodic
+/// axis. Of such leaves alone the work faces are read or written.
+#[tactic(auto, unfolding(crate::specs::Jumps::is_at_jump))]
+pub fn is_at_jump(tree: &Tree, b: BlockAt) -> bool
+    requires { InDomain (grid_of tree.now).shape b }
+    ensures { result ≡ jumps.is_at_jump (grid_of tree.now) b }
+{
+    jumps_on(tree, Axis::X, b) || jumps_on(tree, Axis::Y, b) || jumps_on(tree, Axis::Z, b)
 }
