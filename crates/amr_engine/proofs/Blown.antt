@@ -12,5 +12,5 @@ use Rattle.mesh_model.specs.Tree.ValidGrid.{Valid}
 -- the jumped fluxes of the leaves' own steps are the mesh's
 pub fluxes_held : (w : WorldState) (content : CellAt → ℤ) (n : Speeds) → Valid w.told.grid → WorkHolds w (jumped w.told.grid (leaf_flux w.told.grid content n)) → WorkHolds w (flux w.told.grid content n)
 fluxes_held w content n valid holds node a leaf = record {
-  at = λ i j k hi hj hk. (holds node a leaf).at i j k hi hj hk ∙ sym (fluxes_jumped w.told.grid content n (block_at w.told.grid node) a valid leaf.leaf i j k hi hj hk);
+  at = λ i j k hi hj hk. (holds node a leaf).at i j k hi hj hk ∙ sym (fluxes_jumped w.told.grid content n (block_at w.told.grid node) a valid leaf.own.leaf i j k hi hj hk);
 }

@@ -4,6 +4,7 @@ ghost use Rattle.amr_engine.specs.Stepping.{KeepsMeshes, Steps};
 ghost use Rattle.amr_num.specs.Numbers.{Within};
 ghost use Rattle.amr_num.specs.declared.CellAt.{CellAt};
 ghost use Rattle.flux_conserve.specs.Work.{WorkHolds, WorkWithin};
+ghost use Rattle.guard_fill.specs.Filling.{LeavesSided};
 ghost use Rattle.mesh_model.specs.Fields.Advect as stepping;
 ghost use Rattle.mesh_model.specs.Fields.Advect.{flux, three};
 ghost use Rattle.mesh_model.specs.Fields.Plain.{Mesh};
@@ -17,7 +18,7 @@ use crate::flowing::flow;
 use crate::hindrance::Hindrance;
 use crate::settling::{settle, take_over};
 use flux_conserve::correct;
-use guard_fill::{fill, restrict_all};
+use guard_fill::{fill_sides, restrict_all};
 use mesh_model::{Group, Shape};
 use rank_world::World;
 
@@ -43,8 +44,8 @@ fn keeps_courant(shape: &Shape, speeds: [i64; 3]) -> bool
     speeds_together(speeds) << shape.max <= 1 << 20
 }
 
-/// Sets the work faces of all leaves to the mesh's fluxes: from guard cells that are filled, with the sums of finer
-/// faces where levels jump.
+/// Fills the guard cells straight across the sides of all leaves, and sets the work faces of those at a jump of level to the mesh's fluxes, with
+/// the sums of finer faces there.
 fn blow<const N: usize, const G: usize>(world: &mut World<N, G>, v: u32, speeds: [i64; 3])
     requires fit { IsFit N G world.old }
     requires mesh { IsOfValidMesh world.old }
@@ -54,11 +55,12 @@ fn blow<const N: usize, const G: usize>(world: &mut World<N, G>, v: u32, speeds:
     ensures fit { IsFit N G world.new }
     ensures told { world.new.told ≡ world.old.told }
     ensures meshes { KeepsMeshes world.old world.new }
+    ensures guarded { (content : CellAt → ℤ) → LeavesHold world.old v content → LeavesSided world.new v content }
     ensures flows { (content : CellAt → ℤ) → LeavesHold world.old v content → WorkHolds world.new (flux world.old.told.grid content (three speeds)) }
     ensures small { WorkWithin world.new (2 ^ 58) }
 {
     restrict_all(world, Group::Cell(v));
-    fill(world, Group::Cell(v));
+    fill_sides(world, v);
     flow(world, v, speeds);
     correct(world);
 }
@@ -84,7 +86,7 @@ pub fn step<const N: usize, const G: usize>(
         return Err(Hindrance::TooFast);
     }
     blow(world, v, speeds);
-    let flown = match settle(world, v) {
+    let flown = match settle(world, v, speeds) {
         Ok(flown) => flown,
         Err(above) => return Err(Hindrance::Content(above)),
     };
