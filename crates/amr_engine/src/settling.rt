@@ -6,9 +6,10 @@ ghost use Rattle.amr_num.specs.declared.CellAt.{CellAt as Cells};
 ghost use Rattle.amr_engine.specs.Blocks.{IsSmallBlock};
 ghost use Rattle.amr_engine.specs.Flowing.{AreGuarded, IsReady};
 ghost use Rattle.amr_engine.specs.Settling.{AreFluxed, AreStepFaces, IsLost, IsRefused, IsSettled, IsStepped, MaySettle, OnlyWorkCells, WorkCellsHold, flows_at, node_above, work_cells};
+ghost use Rattle.block_tree.specs.GridOf.{grid_of};
 ghost use Rattle.block_tree.specs.Numbered.{IsNode, block_at};
-ghost use Rattle.flux_conserve.specs.Jumps as jumps;
-ghost use Rattle.flux_conserve.specs.Work.{IsJumpNode, WorkWithin};
+ghost use Rattle.flux_conserve.specs.Jumps as jumps_at;
+ghost use Rattle.flux_conserve.specs.Work.{HasNoJump, IsJumpNode, WorkWithin};
 ghost use Rattle.mesh_model.specs.Fields.Advect.{advected, keeps_courant, outflow, three};
 ghost use Rattle.mesh_model.specs.Fields.ArrayPlaces.{IsSize, face_extents, size_of};
 ghost use Rattle.mesh_model.specs.Fields.RangeWalk.{cells_walked, is_above};
@@ -29,6 +30,7 @@ use crate::flowing::flux_along;
 use crate::hindrance::Above;
 use amr_num::{Axis, BlockAt};
 use block_store::{Beside, Extents};
+use block_tree::Tree;
 use flux_conserve::is_at_jump;
 use mesh_model::geometry::axes::{block_on, is_periodic, roots};
 use mesh_model::{Shape, Var};
@@ -168,7 +170,7 @@ fn step_calm<const N: usize, const G: usize>(
     requires ready { IsReady N G world.old v (three speeds) }
     requires speeds { AreThree (2 ^ 20) speeds }
     requires leaf { IsLeafNode world.old.told.grid node }
-    requires calm { jumps.is_at_jump world.old.told.grid (block_at world.old.told.grid node) ≡ false }
+    requires calm { jumps_at.is_at_jump world.old.told.grid (block_at world.old.told.grid node) ≡ false }
     requires x { length x.old ≡ size_of (face_extents N G X) }
     requires y { length y.old ≡ size_of (face_extents N G Y) }
     requires z { length z.old ≡ size_of (face_extents N G Z) }
@@ -186,12 +188,22 @@ fn step_calm<const N: usize, const G: usize>(
     step_faces(world, v, node, outer, x, y, z)
 }
 
+/// Whether a leaf is at a jump of level, where `jumps` tells whether any is.
+fn is_jump_leaf(tree: &Tree, node: u32, jumps: bool) -> bool
+    requires leaf { IsLeafNode (grid_of tree.now) node }
+    requires calm { jumps ≡ false → HasNoJump (grid_of tree.now) }
+    ensures { result ≡ jumps_at.is_at_jump (grid_of tree.now) (block_at (grid_of tree.now) node) }
+{
+    jumps && is_at_jump(tree, tree.at(node))
+}
+
 /// The same of any leaf.
 fn step_either<const N: usize, const G: usize>(
     world: &mut World<N, G>,
     v: u32,
     node: u32,
     speeds: [i64; 3],
+    jumps: bool,
     outer: [bool; 6],
     x: &mut [i64],
     y: &mut [i64],
@@ -200,6 +212,7 @@ fn step_either<const N: usize, const G: usize>(
     requires may { MaySettle N G world.old v }
     requires ready { IsReady N G world.old v (three speeds) }
     requires speeds { AreThree (2 ^ 20) speeds }
+    requires calm { jumps ≡ false → HasNoJump world.old.told.grid }
     requires leaf { IsLeafNode world.old.told.grid node }
     requires x { length x.old ≡ size_of (face_extents N G X) }
     requires y { length y.old ≡ size_of (face_extents N G Y) }
@@ -213,7 +226,7 @@ fn step_either<const N: usize, const G: usize>(
 {
     let tree = world.tree();
     let _shape = tree.shape();
-    if is_at_jump(tree, tree.at(node)) {
+    if is_jump_leaf(tree, node, jumps) {
         step_leaf(world, v, node, outer)
     } else {
         step_calm(world, v, node, speeds, outer, x, y, z)
@@ -226,6 +239,7 @@ fn settle_leaf<const N: usize, const G: usize>(
     v: u32,
     node: u32,
     speeds: [i64; 3],
+    jumps: bool,
     x: &mut [i64],
     y: &mut [i64],
     z: &mut [i64],
@@ -233,6 +247,7 @@ fn settle_leaf<const N: usize, const G: usize>(
     requires may { MaySettle N G world.old v }
     requires ready { IsReady N G world.old v (three speeds) }
     requires speeds { AreThree (2 ^ 20) speeds }
+    requires calm { jumps ≡ false → HasNoJump world.old.told.grid }
     requires x { length x.old ≡ size_of (face_extents N G X) }
     requires y { length y.old ≡ size_of (face_extents N G Y) }
     requires z { length z.old ≡ size_of (face_extents N G Z) }
@@ -252,7 +267,7 @@ fn settle_leaf<const N: usize, const G: usize>(
     let shape = tree.shape();
     let block = tree.at(node);
     let outer = outer_sides(&shape, block);
-    match step_either(world, v, node, speeds, outer, x, y, z) {
+    match step_either(world, v, node, speeds, jumps, outer, x, y, z) {
         Ok(flown) => Ok(flown),
         Err(at) => Err(above_at(N as u32, block, at)),
     }
@@ -264,6 +279,7 @@ fn settle_node<const N: usize, const G: usize>(
     v: u32,
     node: u32,
     speeds: [i64; 3],
+    jumps: bool,
     x: &mut [i64],
     y: &mut [i64],
     z: &mut [i64],
@@ -271,6 +287,7 @@ fn settle_node<const N: usize, const G: usize>(
     requires may { MaySettle N G world.old v }
     requires ready { IsReady N G world.old v (three speeds) }
     requires speeds { AreThree (2 ^ 20) speeds }
+    requires calm { jumps ≡ false → HasNoJump world.old.told.grid }
     requires x { length x.old ≡ size_of (face_extents N G X) }
     requires y { length y.old ≡ size_of (face_extents N G Y) }
     requires z { length z.old ≡ size_of (face_extents N G Z) }
@@ -287,7 +304,7 @@ fn settle_node<const N: usize, const G: usize>(
     ensures size { IfOk result (λ flown. Within (2 ^ 70) flown) }
 {
     if world.tree().is_leaf(node) {
-        settle_leaf(world, v, node, speeds, x, y, z)
+        settle_leaf(world, v, node, speeds, jumps, x, y, z)
     } else {
         Ok(0)
     }
@@ -298,6 +315,7 @@ fn walk<const N: usize, const G: usize>(
     world: &mut World<N, G>,
     v: u32,
     speeds: [i64; 3],
+    jumps: bool,
     x: &mut [i64],
     y: &mut [i64],
     z: &mut [i64],
@@ -305,6 +323,7 @@ fn walk<const N: usize, const G: usize>(
     requires may { MaySettle N G world.old v }
     requires ready { IsReady N G world.old v (three speeds) }
     requires speeds { AreThree (2 ^ 20) speeds }
+    requires calm { jumps ≡ false → HasNoJump world.old.told.grid }
     requires x { length x.old ≡ size_of (face_extents N G X) }
     requires y { length y.old ≡ size_of (face_extents N G Y) }
     requires z { length z.old ≡ size_of (face_extents N G Z) }
@@ -321,14 +340,14 @@ fn walk<const N: usize, const G: usize>(
 {
     let mut flown: i128 = 0;
     for node in 0..world.tree().len() {
-        flown += settle_node(world, v, node, speeds, x, y, z)?;
+        flown += settle_node(world, v, node, speeds, jumps, x, y, z)?;
     }
     Ok(flown)
 }
 
 /// Writes what each leaf cell of a variable holds after a step into the leaf's work cells, and tells what flows out
 /// through the outer sides of the domain. The guard cells straight across the sides of leaves
-/// are filled, and the work faces of leaves at a jump of level hold the fluxes through their faces. Those of other leaves
+/// are filled, and the work faces of leaves at a jump of level hold the fluxes through their faces, where `jumps` tells whether there are any. Those of other leaves
 /// are neither read nor written.
 ///
 /// Where a new content is above 2^40 in absolute value, the first such cell is refused with that content: leaves go in
@@ -337,11 +356,13 @@ pub fn settle<const N: usize, const G: usize>(
     world: &mut World<N, G>,
     v: u32,
     speeds: [i64; 3],
+    jumps: bool,
 ) -> Result<i128, Above>
     requires fit { IsFit N G world.old }
     requires variable { v < world.old.told.counts.cells }
     requires guarded { AreGuarded world.old v }
     requires speeds { AreThree (2 ^ 20) speeds }
+    requires calm { jumps ≡ false → HasNoJump world.old.told.grid }
     requires courant { keeps_courant world.old.told.grid.shape (three speeds) ≡ true }
     requires range { LeavesInRange world.old }
     requires small { WorkWithin world.old (2 ^ 58) }
@@ -364,6 +385,7 @@ pub fn settle<const N: usize, const G: usize>(
         world,
         v,
         speeds,
+        jumps,
         &mut x[..face_count(N, G, Axis::X)],
         &mut y[..face_count(N, G, Axis::Y)],
         &mut z[..face_count(N, G, Axis::Z)],

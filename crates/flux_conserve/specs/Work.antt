@@ -32,6 +32,10 @@ pub record IsJumpNode (g : Grid) (node : ℕ) : Type 0 where
   pub own : IsLeafNode g node
   pub jump : is_at_jump g (block_at g node) ≡ true
 
+-- no leaf is
+abbrev pub HasNoJump : Grid → Type 0
+HasNoJump g = (node : ℕ) → IsLeafNode g node → is_at_jump g (block_at g node) ≡ false
+
 -- the work faces of each leaf at a jump hold a field, by canonical names
 abbrev pub WorkHolds : WorldState → (FaceAt → ℤ) → Type 0
 WorkHolds w field = (node : ℕ) (a : Axis) → IsJumpNode w.told.grid node →

@@ -3,12 +3,12 @@
 ghost use Rattle.block_tree.specs.GridOf.{grid_of};
 ghost use Rattle.block_tree.specs.Numbered.{IsNode, block_at};
 ghost use Rattle.flux_conserve.specs.Jumps as jumps;
-ghost use Rattle.flux_conserve.specs.Work.{IsFinerNode};
+ghost use Rattle.flux_conserve.specs.Work.{HasNoJump, IsFinerNode};
 ghost use Rattle.mesh_model.specs.Geometry.Blocks.{InDomain};
 ghost use Rattle.mesh_model.specs.Geometry.Coordinates as coordinates;
 ghost use Rattle.mesh_model.specs.Geometry.Limits.{IsShape};
 ghost use Rattle.mesh_model.specs.Tree.Kinds.{is_leaf_block};
-ghost use Rattle.std.specs.Prelude.{◌≡◌, ◌*◌, ◌^◌, ◌<◌, ◌≤◌, MatchOption, None};
+ghost use Rattle.std.specs.Prelude.{◌≡◌, ◌*◌, ◌^◌, ◌<◌, ◌≤◌, MatchOption, None, true, false};
 
 use amr_num::{Axis, BlockAt};
 use block_tree::Tree;
@@ -111,4 +111,17 @@ pub fn is_at_jump(tree: &Tree, b: BlockAt) -> bool
     ensures { result ≡ jumps.is_at_jump (grid_of tree.now) b }
 {
     jumps_on(tree, Axis::X, b) || jumps_on(tree, Axis::Y, b) || jumps_on(tree, Axis::Z, b)
+}
+
+/// Whether some leaf is at a jump of level. Where none is, all leaves lie beside leaves of their own level alone.
+pub fn has_jump(tree: &Tree) -> bool
+    ensures none { result ≡ false → HasNoJump (grid_of tree.now) }
+    ensures some { result ≡ true → HasNoJump (grid_of tree.now) → ⊥ }
+{
+    for node in 0..tree.len() {
+        if tree.is_leaf(node) && is_at_jump(tree, tree.at(node)) {
+            return true;
+        }
+    }
+    false
 }

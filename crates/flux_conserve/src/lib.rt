@@ -7,7 +7,7 @@ mod faces;
 pub mod laws;
 mod sums;
 
-pub use beside::is_at_jump;
+pub use beside::{has_jump, is_at_jump};
 pub use correcting::correct;
 
 #[cfg(test)]

@@ -1,5 +1,6 @@
 use Rattle.std.proofs.Common.{◌≡◌, ◌^◌, ◌<◌, ◌≤◌, length, ◌+ℤ◌, true, None, Some, arith, ap, ap₂, sym, subst, ◌∙◌}
 use Rattle.std.specs.Prelude.{unsigned_abs}
+use Rattle.flux_conserve.specs.Work.{HasNoJump}
 use Rattle.mesh_model.specs.Fields.Advect as stepping
 use Rattle.mesh_model.specs.Fields.Advect.{three}
 use Rattle.mesh_model.specs.Fields.Ranks.{Told}
@@ -32,10 +33,13 @@ settle-requires g c =
             (
               c.requires.speeds,
               (
-                subst (λ (t : Told). stepping.keeps_courant t.grid.shape (three c.args.speeds) ≡ true) (sym c.blow.ensures.told) slow,
+                λ none. subst (λ (t : Told). HasNoJump t.grid) (sym c.blow.ensures.told) (subst HasNoJump c.tree-2.ensures (c.has_jump-jumps.ensures.none none)),
                 (
-                  leaves_in_range blown mesh.mesh (c.blow.ensures.meshes mesh.mesh mesh.world) mesh.valid,
-                  c.blow.ensures.small,
+                  subst (λ (t : Told). stepping.keeps_courant t.grid.shape (three c.args.speeds) ≡ true) (sym c.blow.ensures.told) slow,
+                  (
+                    leaves_in_range blown mesh.mesh (c.blow.ensures.meshes mesh.mesh mesh.world) mesh.valid,
+                    c.blow.ensures.small,
+                  ),
                 ),
               ),
             ),

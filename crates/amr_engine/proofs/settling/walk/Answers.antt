@@ -13,6 +13,7 @@ use Rattle.mesh_model.specs.Tree.Kinds.{Grid}
 use Rattle.mesh_model.specs.Tree.Order.{Sorted, nodes}
 use Rattle.mesh_model.specs.Tree.ValidGrid.{Valid}
 use Rattle.amr_engine.specs.Settling.{AreFluxed, IsLost, IsRefused, above_below, lost, node_above}
+use Rattle.flux_conserve.specs.Work.{HasNoJump}
 use Rattle.amr_engine.specs.Totals.{node_sum}
 use Rattle.amr_engine.proofs.Machine.{more_of, more_small}
 use Rattle.amr_engine.proofs.Settled.{fluxed_still, lost_outflow, may_still, node_settled, ready_still, walk_refused, walked_above, work_again}
@@ -30,7 +31,10 @@ settle_node-requires g c =
         may_still old now c.args.v before.only g.row.N g.row.G before.fit c.requires.may,
         (
           ready_still old now c.args.v before.only g.row.N g.row.G (three c.args.speeds) before.fit c.requires.ready,
-          (c.requires.speeds, (before.x ∙ c.requires.x, (before.y ∙ c.requires.y, (before.z ∙ c.requires.z, there)))),
+          (
+            c.requires.speeds,
+            (λ none. subst HasNoJump same (c.requires.calm none), (before.x ∙ c.requires.x, (before.y ∙ c.requires.y, (before.z ∙ c.requires.z, there)))),
+          ),
         ),
       ),
     )
