@@ -11,7 +11,7 @@ use Rattle.mesh_model.specs.declared.fields.values.Var.TheVariants.{Cell, FaceWo
 use Rattle.mesh_model.specs.declared.geometry.Shape.{Shape}
 use Rattle.mesh_model.specs.Fields.Advect.{Speeds, keeps_courant, leaf_flux, speed}
 use Rattle.mesh_model.specs.Fields.Arrays.{var_length}
-use Rattle.mesh_model.specs.Fields.ArrayPlaces.{HoldsFaceField, HoldsGuards, IsSize, cell_extents, face_extents, number_at}
+use Rattle.mesh_model.specs.Fields.ArrayPlaces.{HoldsFaceField, IsSize, cell_extents, face_extents, number_at}
 use Rattle.mesh_model.specs.Fields.Octants.{cells_of}
 use Rattle.mesh_model.specs.Fields.Ranks.{IsSized, OnlyOf, Told, WorldState, world_with}
 use Rattle.mesh_model.specs.Geometry.Blocks.{InDomain}
@@ -27,13 +27,14 @@ use Rattle.mesh_model.proofs.FieldLemmas.Worlds.{fit_after, has_array, only_of, 
 use Rattle.block_tree.specs.Numbered.{block_at}
 use Rattle.rank_world.specs.Holding.{IsLeafNode, cell_array}
 use Rattle.rank_world.proofs.Puts.{which_array}
-use Rattle.guard_fill.specs.Filling.{LeavesGuarded, NodeGuarded}
+use Rattle.guard_fill.specs.Filling.{HoldsSides, IsStraight, LeavesSided, NodeSided}
 use Rattle.guard_fill.specs.Near.{IsNear}
 use Rattle.guard_fill.proofs.NearViews.{near_view_within}
 use Rattle.step_advect.specs.Fluxed.{AreFacesWithin, AreSidesWithin, Flow, IsFluxed}
-use Rattle.step_advect.specs.Lifts.{IsFlowOf}
+use Rattle.step_advect.specs.Lifts.{HoldsBeside, IsFlowOf}
+use Rattle.step_advect.proofs.Donors.{places_inside}
 use Rattle.step_advect.proofs.Lifted.{fluxes_of_leaves}
-use Rattle.flux_conserve.specs.Work.{OnlyWorkFaces, WorkHolds, WorkWithin, work_array}
+use Rattle.flux_conserve.specs.Work.{IsJumpNode, OnlyWorkFaces, WorkHolds, WorkWithin, work_array}
 use Rattle.amr_engine.specs.Blocks.{IsSmallBlock}
 use Rattle.amr_engine.specs.Flowing.{AreFlowed, AreFluxes, HasFluxes, IsReady}
 
@@ -90,15 +91,35 @@ guards_some s shape = elim shape.guards [
   | inr (inr four) ↦ omega arith
 ]
 
+-- they lie in its own cells or straight across its sides
+straight_beside : (s : Shape) (a : Axis) (i j k h : ℕ) → 1 ≤ s.g → h ≤ 1 → i < longer_on a X s.n → j < longer_on a Y s.n → k < longer_on a Z s.n →
+    IsStraight s (s.g + i - (step a h).x) (s.g + j - (step a h).y) (s.g + k - (step a h).z)
+straight_beside s X i j k h some le hi hj hk = record { own = inr (inr ((omega arith, omega arith), (omega arith, omega arith))) }
+straight_beside s Y i j k h some le hi hj hk = record { own = inr (inl ((omega arith, omega arith), (omega arith, omega arith))) }
+straight_beside s Z i j k h some le hi hj hk = record { own = inl ((omega arith, omega arith), (omega arith, omega arith)) }
+
+straight_above : (s : Shape) (a : Axis) (i j k : ℕ) → i < longer_on a X s.n → j < longer_on a Y s.n → k < longer_on a Z s.n → IsStraight s (s.g + i) (s.g + j) (s.g + k)
+straight_above s X i j k hi hj hk = record { own = inr (inr ((omega arith, omega arith), (omega arith, omega arith))) }
+straight_above s Y i j k hi hj hk = record { own = inr (inl ((omega arith, omega arith), (omega arith, omega arith))) }
+straight_above s Z i j k hi hj hk = record { own = inl ((omega arith, omega arith), (omega arith, omega arith)) }
+
+beside_sides : (g : Grid) (content : CellAt → ℤ) (a : Axis) (b : BlockAt) (numbers : ℕ → ℕ → ℕ → ℤ) → IsShape g.shape → HoldsSides g content b numbers → HoldsBeside g content a b numbers
+beside_sides g content a b numbers shape sides = record {
+  at = λ i j k h hi hj hk le.
+      let some = guards_some g.shape shape in
+      let there = places_inside g.shape.n g.shape.g a i j k h some hi hj hk in
+      sides.at _ _ _ there.0 there.1 there.2 (straight_beside g.shape a i j k h some le hi hj hk);
+}
+
 module _ (g : Grid) (content : CellAt → ℤ) (b : BlockAt) (cells : List ℤ) (valid : Valid g) (small : (c : CellAt) → Within number_range (content c)) (leaf : IsIn b g.leaves)
-    (guards : HoldsGuards g content b (number_at (cell_extents g.shape.n g.shape.g) cells)) where
-  number_small : (i j k : ℕ) → IsNear g.shape i → IsNear g.shape j → IsNear g.shape k → Within (2 ^ 56) (number_at (cell_extents g.shape.n g.shape.g) cells i j k)
-  number_small i j k hi hj hk =
+    (guards : HoldsSides g content b (number_at (cell_extents g.shape.n g.shape.g) cells)) where
+  number_small : (i j k : ℕ) → IsNear g.shape i → IsNear g.shape j → IsNear g.shape k → IsStraight g.shape i j k → Within (2 ^ 56) (number_at (cell_extents g.shape.n g.shape.g) cells i j k)
+  number_small i j k hi hj hk straight =
       let some = guards_some g.shape valid.shape in
       let i_high = hi.high in
       let j_high = hj.high in
       let k_high = hk.high in
-      let is = guards.at i j k (omega arith) (omega arith) (omega arith) in
+      let is = guards.at i j k (omega arith) (omega arith) (omega arith) straight in
       let view = near_view_within g content number_range b i j k valid small leaf hi hj hk in
       subst (Within (2 ^ 56)) (sym is) (omega arith)
 
@@ -115,9 +136,10 @@ module _ (g : Grid) (content : CellAt → ℤ) (b : BlockAt) (cells : List ℤ) 
       let h = step_few a in
       record {
         low = λ i j k hi hj hk. number_small (e + i - (step a 1).x) (e + j - (step a 1).y) (e + k - (step a 1).z)
-            (near_low i (step a 1).x (longer_on a X n) hi (longer_few a X n) h.0) (near_low j (step a 1).y (longer_on a Y n) hj (longer_few a Y n) h.1) (near_low k (step a 1).z (longer_on a Z n) hk (longer_few a Z n) h.2);
+            (near_low i (step a 1).x (longer_on a X n) hi (longer_few a X n) h.0) (near_low j (step a 1).y (longer_on a Y n) hj (longer_few a Y n) h.1) (near_low k (step a 1).z (longer_on a Z n) hk (longer_few a Z n) h.2)
+            (straight_beside g.shape a i j k 1 (guards_some g.shape valid.shape) (omega arith) hi hj hk);
         high = λ i j k hi hj hk. number_small (e + i) (e + j) (e + k)
-            (near_high i (longer_on a X n) hi (longer_few a X n)) (near_high j (longer_on a Y n) hj (longer_few a Y n)) (near_high k (longer_on a Z n) hk (longer_few a Z n));
+            (near_high i (longer_on a X n) hi (longer_few a X n)) (near_high j (longer_on a Y n) hj (longer_few a Y n)) (near_high k (longer_on a Z n) hk (longer_few a Z n)) (straight_above g.shape a i j k hi hj hk);
       }
 
 -- in the sizes of the world's blocks
@@ -148,7 +170,7 @@ module _ (g : Grid) (speeds : Speeds) (a : Axis) (b : BlockAt) (flow : Flow) (ce
 
     fluxes_there : Gives g.shape.n g.shape.g
     fluxes_there small fluxed size = record {
-      fluxes = λ content guards. fluxes_of_leaves g content speeds a b flow cells old new shape inside is guards fluxed;
+      fluxes = λ content guards. fluxes_of_leaves g content speeds a b flow cells old new shape inside is (beside_sides g content a b (number_at (cell_extents g.shape.n g.shape.g) cells) shape guards) fluxed;
       within = (size (2 ^ 56) small).at;
     }
 
@@ -164,10 +186,10 @@ cell_apart v a is = cc
 pub cells_same : (old new : WorldState) (v k : ℕ) → OnlyWorkFaces old new → cell_array new v k ≡ cell_array old v k
 cells_same old new v k only = only.others (Cell v) k (λ a is leaf. cell_apart v a is)
 
-pub guarded_same : (old new : WorldState) (v k : ℕ) (content : CellAt → ℤ) → OnlyWorkFaces old new → NodeGuarded old v content k → NodeGuarded new v content k
+pub guarded_same : (old new : WorldState) (v k : ℕ) (content : CellAt → ℤ) → OnlyWorkFaces old new → NodeSided old v content k → NodeSided new v content k
 guarded_same old new v k content only guarded =
-    subst (λ (t : Told). HoldsGuards t.grid content (block_at t.grid k) (cells_of t.grid (cell_array new v k))) (sym only.told)
-    (subst (λ xs. HoldsGuards old.told.grid content (block_at old.told.grid k) (cells_of old.told.grid xs)) (sym (cells_same old new v k only)) guarded)
+    subst (λ (t : Told). HoldsSides t.grid content (block_at t.grid k) (cells_of t.grid (cell_array new v k))) (sym only.told)
+    (subst (λ xs. HoldsSides old.told.grid content (block_at old.told.grid k) (cells_of old.told.grid xs)) (sym (cells_same old new v k only)) guarded)
 
 -- the work faces of a leaf on an axis have got its fluxes
 module _ (w : WorldState) (v node : ℕ) (speeds : Speeds) (a : Axis) (ys : List ℤ) (n e : ℕ) (ready : IsReady n e w v speeds) (leaf : IsLeafNode w.told.grid node) (size : IsSize n e)
@@ -241,15 +263,15 @@ then_flowed n e a b c v speeds ab bc = record {
   keeps = λ k d has. bc.keeps k d (ab.keeps k d has);
 }
 
--- once the work faces of all leaves have their fluxes, they hold those of the mesh
-module _ (old new : WorldState) (v : ℕ) (speeds : Speeds) (only : OnlyWorkFaces old new) (all : (k : ℕ) (a : Axis) → IsLeafNode old.told.grid k → HasFluxes new v speeds k a) where
-  back : (k : ℕ) → IsLeafNode new.told.grid k → IsLeafNode old.told.grid k
-  back k = subst (λ (t : Told). IsLeafNode t.grid k) only.told
+-- once the work faces of all leaves at a jump have their fluxes, they hold those of the mesh
+module _ (old new : WorldState) (v : ℕ) (speeds : Speeds) (only : OnlyWorkFaces old new) (all : (k : ℕ) (a : Axis) → IsJumpNode old.told.grid k → HasFluxes new v speeds k a) where
+  back : (k : ℕ) → IsJumpNode new.told.grid k → IsJumpNode old.told.grid k
+  back k = subst (λ (t : Told). IsJumpNode t.grid k) only.told
 
-  pub holds_after : (content : CellAt → ℤ) → LeavesGuarded old v content → WorkHolds new (leaf_flux old.told.grid content speeds)
+  pub holds_after : (content : CellAt → ℤ) → LeavesSided old v content → WorkHolds new (leaf_flux old.told.grid content speeds)
   holds_after content guarded k a leaf =
       let s = new.told.grid.shape in
-      let here = (all k a (back k leaf)).fluxes content (guarded_same old new v k content only (guarded k (back k leaf))) in
+      let here = (all k a (back k leaf)).fluxes content (guarded_same old new v k content only (guarded k (back k leaf).own)) in
       subst (λ (t : Told). HoldsFaceField new.told.grid (leaf_flux t.grid content speeds) a (block_at new.told.grid k) (number_at (face_extents s.n s.g a) (work_array new a k))) only.told here
 
   pub within_after : WorkWithin new (2 ^ 56)

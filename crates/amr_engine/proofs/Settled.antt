@@ -8,7 +8,7 @@ use Rattle.amr_num.specs.declared.Axis.TheVariants.{X, Y, Z}
 use Rattle.amr_num.specs.declared.BlockAt.{BlockAt}
 use Rattle.amr_num.specs.declared.CellAt.{CellAt}
 use Rattle.mesh_model.specs.declared.fields.values.Var.TheVariants.{Cell, CellWork, FaceWork}
-use Rattle.mesh_model.specs.Fields.Advect.{Speeds, advected, flux, outflow}
+use Rattle.mesh_model.specs.Fields.Advect.{Speeds, advected, flux, keeps_courant, outflow}
 use Rattle.mesh_model.specs.Fields.ArrayPlaces.{HoldsFaceField, HoldsViews, face_extents, number_at}
 use Rattle.mesh_model.specs.Fields.Octants.{cells_of}
 use Rattle.mesh_model.specs.Fields.RangeWalk.{cells_walked, is_above}
@@ -25,8 +25,10 @@ use Rattle.mesh_model.proofs.FieldLemmas.ValidGrid.{leaf_whole}
 use Rattle.block_tree.specs.Numbered.{block_at}
 use Rattle.block_tree.proofs.Leaves.{leaves_are}
 use Rattle.rank_world.specs.Holding.{IsLeafNode, LeavesHold, OnlyCells, cell_array}
-use Rattle.flux_conserve.specs.Work.{work_array}
+use Rattle.flux_conserve.specs.Work.{IsJumpNode, work_array}
+use Rattle.guard_fill.specs.Filling.{HoldsSides, LeavesSided}
 use Rattle.regrid_move.proofs.Excess.{found_filtered}
+use Rattle.amr_engine.specs.Flowing.{IsReady}
 use Rattle.amr_engine.specs.Settling.{AreFluxed, HoldsContents, IsRefused, IsSettled, MaySettle, OnlyWorkCells, WorkCellsHold, WorkNodeHolds, above_below, lost, node_above, work_cells}
 use Rattle.amr_engine.specs.Totals.{node_sum}
 use Rattle.amr_engine.specs.declared.hindrance.Above.{Above}
@@ -101,6 +103,21 @@ module _ (old now : WorldState) (v : ℕ) (before : OnlyWorkCells old now) where
   faces_same : (a : Axis) (k : ℕ) → work_array now a k ≡ work_array old a k
   faces_same a k = before.others (FaceWork a) k (λ e. cc)
 
+  guarded_still : (content : CellAt → ℤ) → LeavesSided old v content → LeavesSided now v content
+  guarded_still content guarded k leaf =
+      let was = guarded k (subst (λ (t : Told). IsLeafNode t.grid k) before.told leaf) in
+      subst (λ (t : Told). HoldsSides t.grid content (block_at t.grid k) (cells_of t.grid (cell_array now v k))) (sym before.told)
+      (subst (λ xs. HoldsSides old.told.grid content (block_at old.told.grid k) (cells_of old.told.grid xs)) (sym (cells_same v k)) was)
+
+  -- a step may be made of them still
+  pub ready_still : (n g : ℕ) (speeds : Speeds) → IsFit n g now → IsReady n g old v speeds → IsReady n g now v speeds
+  ready_still n g speeds fit ready = record {
+    fit = fit;
+    variable = subst (λ (t : Told). v < t.counts.cells) (sym before.told) ready.variable;
+    guarded = record { content = ready.guarded.content; guarded = guarded_still ready.guarded.content ready.guarded.guarded; small = ready.guarded.small };
+    courant = subst (λ (t : Told). keeps_courant t.grid.shape speeds ≡ true) (sym before.told) ready.courant;
+  }
+
   -- the leaves hold the contents and the fluxes that they held
   pub fluxed_still : (content : CellAt → ℤ) (n : Speeds) → AreFluxed old v content n → AreFluxed now v content n
   fluxed_still content n are = record {
@@ -108,8 +125,9 @@ module _ (old now : WorldState) (v : ℕ) (before : OnlyWorkCells old now) where
         let was = are.cells k (subst (λ (t : Told). IsLeafNode t.grid k) before.told leaf) in
         subst (λ (t : Told). HoldsViews t.grid content (block_at t.grid k) (cells_of t.grid (cell_array now v k))) (sym before.told)
         (subst (λ xs. HoldsViews old.told.grid content (block_at old.told.grid k) (cells_of old.told.grid xs)) (sym (cells_same v k)) was);
+    guarded = guarded_still content are.guarded;
     faces = λ k a leaf.
-        let was = are.faces k a (subst (λ (t : Told). IsLeafNode t.grid k) before.told leaf) in
+        let was = are.faces k a (subst (λ (t : Told). IsJumpNode t.grid k) before.told leaf) in
         subst (λ (t : Told). HoldsFaceField t.grid (flux t.grid content n) a (block_at t.grid k) (number_at (face_extents t.grid.shape.n t.grid.shape.g a) (work_array now a k))) (sym before.told)
         (subst (λ xs. HoldsFaceField old.told.grid (flux old.told.grid content n) a (block_at old.told.grid k) (number_at (face_extents old.told.grid.shape.n old.told.grid.shape.g a) xs)) (sym (faces_same a k)) was);
   }
@@ -128,7 +146,7 @@ module _ (old now : WorldState) (v : ℕ) (before : OnlyWorkCells old now) where
               Within number_range (cells_of old.told.grid xs (old.told.grid.shape.g + x) (old.told.grid.shape.g + y) (old.told.grid.shape.g + z))) (sym (cells_same u k)) was.cells);
         };
     small = λ k a leaf.
-        let was = may.small k a (subst (λ (t : Told). IsLeafNode t.grid k) before.told leaf) in
+        let was = may.small k a (subst (λ (t : Told). IsJumpNode t.grid k) before.told leaf) in
         record {
           at = subst (λ (t : Told). (x y z : ℕ) → x < longer_on a X t.grid.shape.n → y < longer_on a Y t.grid.shape.n → z < longer_on a Z t.grid.shape.n →
               Within (2 ^ 58) (number_at (face_extents t.grid.shape.n t.grid.shape.g a) (work_array now a k) (t.grid.shape.g + x) (t.grid.shape.g + y) (t.grid.shape.g + z))) (sym before.told)
@@ -140,31 +158,31 @@ module _ (old now : WorldState) (v : ℕ) (before : OnlyWorkCells old now) where
 -- ---- leaves that are settled
 
 -- the leaves below a node are settled
-pub record AreSettledBelow (m : ℕ) (old new : WorldState) (v : ℕ) : Type 0 where
-  pub made : (content : CellAt → ℤ) (n : Speeds) → AreFluxed old v content n → (k : ℕ) → k < m → IsLeafNode old.told.grid k → WorkNodeHolds new (advected old.told.grid content n) k
-  pub none : (content : CellAt → ℤ) (n : Speeds) → AreFluxed old v content n → above_below old.told.grid content n m ≡ None
+pub record AreSettledBelow (m : ℕ) (old new : WorldState) (v : ℕ) (n : Speeds) : Type 0 where
+  pub made : (content : CellAt → ℤ) → AreFluxed old v content n → (k : ℕ) → k < m → IsLeafNode old.told.grid k → WorkNodeHolds new (advected old.told.grid content n) k
+  pub none : (content : CellAt → ℤ) → AreFluxed old v content n → above_below old.told.grid content n m ≡ None
 
-pub none_settled : (w : WorldState) (v : ℕ) → AreSettledBelow 0 w w v
-none_settled w v = record { made = λ content n are k h leaf. absurd (omega arith); none = λ content n are. refl }
+pub none_settled : (w : WorldState) (v : ℕ) (n : Speeds) → AreSettledBelow 0 w w v n
+none_settled w v n = record { made = λ content are k h leaf. absurd (omega arith); none = λ content are. refl }
 
-module _ (m : ℕ) (old now new : WorldState) (v : ℕ) (is : AreSettledBelow m old now v) (before : OnlyWorkCells old now) where
+module _ (m : ℕ) (old now new : WorldState) (v : ℕ) (n : Speeds) (is : AreSettledBelow m old now v n) (before : OnlyWorkCells old now) where
   -- one more node is
-  pub node_settled : OnlyOf now new 0 CellWork m → ((content : CellAt → ℤ) (n : Speeds) → AreFluxed now v content n → IsSettled now new content n m) → AreSettledBelow (m + 1) old new v
+  pub node_settled : OnlyOf now new 0 CellWork m → ((content : CellAt → ℤ) → AreFluxed now v content n → IsSettled now new content n m) → AreSettledBelow (m + 1) old new v n
   node_settled only settled = record {
-    made = λ content n are k h there. elim (cases_lt k m) [
+    made = λ content are k h there. elim (cases_lt k m) [
       | inl less ↦ (
           let field = advected old.told.grid content n in
           subst (λ (t : Told). HoldsContents t.grid field (block_at t.grid k) (cells_of t.grid (work_cells new k))) (sym only.told)
-          (subst (λ xs. HoldsContents now.told.grid field (block_at now.told.grid k) (cells_of now.told.grid xs)) (sym (only.here.others CellWork k (λ u e. omega arith))) (is.made content n are k less there)))
+          (subst (λ xs. HoldsContents now.told.grid field (block_at now.told.grid k) (cells_of now.told.grid xs)) (sym (only.here.others CellWork k (λ u e. omega arith))) (is.made content are k less there)))
       | inr more ↦ (
           let last : k ≡ m = omega arith in
-          let here = (settled content n (fluxed_still old now v before content n are)).made in
+          let here = (settled content (fluxed_still old now v before content n are)).made in
           let made : IsLeafNode old.told.grid m → WorkNodeHolds new (advected old.told.grid content n) m = subst (λ (t : Told). IsLeafNode t.grid m → WorkNodeHolds new (advected t.grid content n) m) before.told here in
           subst (WorkNodeHolds new (advected old.told.grid content n)) (sym last) (made (subst (IsLeafNode old.told.grid) last there)))
     ];
-    none = λ content n are.
-        one_more_none m (node_above old.told.grid content n) (is.none content n are)
-        (subst (λ (t : Told). node_above t.grid content n m ≡ None) before.told (settled content n (fluxed_still old now v before content n are)).none);
+    none = λ content are.
+        one_more_none m (node_above old.told.grid content n) (is.none content are)
+        (subst (λ (t : Told). node_above t.grid content n m ≡ None) before.told (settled content (fluxed_still old now v before content n are)).none);
   }
 
 -- ---- the walk over the leaves

@@ -6,6 +6,7 @@ use Rattle.amr_num.specs.Numbers.{Within, number_range}
 use Rattle.amr_num.specs.declared.CellAt.{CellAt}
 use Rattle.amr_num.proofs.Sizes.{within_add}
 use Rattle.flux_conserve.specs.Work.{WorkHolds}
+use Rattle.guard_fill.specs.Filling.{LeavesSided}
 use Rattle.mesh_model.specs.Fields.Advect.{advect, advected, flux, outflow, three}
 use Rattle.mesh_model.specs.Fields.Plain.{Mesh}
 use Rattle.mesh_model.specs.Fields.RangeWalk.{cells_walked, is_above}
@@ -30,7 +31,7 @@ pub is_near : (most : ℕ) (z : ℤ) → unsigned_abs z ≤ most → is_above mo
 is_near most z h = le-ltb most (unsigned_abs z) h
 
 module _ (old blown : WorldState) (v : ℕ) (speeds : List ℤ) (m : Mesh) (of : IsOfMesh old m) (there : v < old.told.counts.cells) (told : blown.told ≡ old.told)
-    (meshes : KeepsMeshes old blown) (flows : (content : CellAt → ℤ) → LeavesHold old v content → WorkHolds blown (flux old.told.grid content (three speeds))) where
+    (meshes : KeepsMeshes old blown) (guards : (content : CellAt → ℤ) → LeavesHold old v content → LeavesSided blown v content) (flows : (content : CellAt → ℤ) → LeavesHold old v content → WorkHolds blown (flux old.told.grid content (three speeds))) where
   below : v < blown.told.counts.cells
   below = subst (λ (t : Told). v < t.counts.cells) (sym told) there
 
@@ -40,6 +41,7 @@ module _ (old blown : WorldState) (v : ℕ) (speeds : List ℤ) (m : Mesh) (of :
   pub are_fluxed : AreFluxed blown v (m.cells v) (three speeds)
   are_fluxed = record {
     cells = (meshes m of).contents v below;
+    guarded = guards (m.cells v) (of.contents v there);
     faces = subst (λ (t : Told). WorkHolds blown (flux t.grid (m.cells v) (three speeds))) (sym told) (flows (m.cells v) (of.contents v there));
   }
 

@@ -7,23 +7,23 @@ use Rattle.amr_num.specs.declared.BlockAt.{BlockAt}
 use Rattle.amr_num.specs.declared.CellAt.{CellAt}
 use Rattle.block_tree.specs.Numbered.{block_at}
 use Rattle.flux_conserve.specs.Work.{OnlyWorkFaces, work_array}
-use Rattle.guard_fill.specs.Filling.{LeavesGuarded}
+use Rattle.guard_fill.specs.Filling.{HoldsSides, LeavesSided}
 use Rattle.mesh_model.specs.Fields.Advect.{Speeds, keeps_courant, leaf_flux}
-use Rattle.mesh_model.specs.Fields.ArrayPlaces.{HoldsFaceField, HoldsGuards, cell_extents, face_extents, number_at}
+use Rattle.mesh_model.specs.Fields.ArrayPlaces.{HoldsFaceField, cell_extents, face_extents, number_at}
 use Rattle.mesh_model.specs.Fields.Ranks.{IsFit, WorldState}
 use Rattle.mesh_model.specs.Geometry.Places.{longer_on}
 use Rattle.mesh_model.specs.Tree.Kinds.{Grid}
 use Rattle.rank_world.specs.Holding.{cell_array}
 
--- the leaves have on all their places, guards included, the views of a field whose contents are at most 2^40 in absolute value
+-- the leaves have, in their own cells and straight across their sides, the views of a field whose contents are at most 2^40 in absolute value
 pub record AreGuarded (w : WorldState) (v : ℕ) : Type 0 where
   pub content : CellAt → ℤ
-  pub guarded : LeavesGuarded w v content
+  pub guarded : LeavesSided w v content
   pub small : (c : CellAt) → Within number_range (content c)
 
--- the faces of a block normal to an axis have the fluxes of whatever field its cells have with their guards, and small ones
+-- the faces of a block normal to an axis have the fluxes of whatever field its cells have with the guard cells straight across its sides, and small ones
 pub record AreFluxes (g : Grid) (n : Speeds) (a : Axis) (b : BlockAt) (cells faces : List ℤ) : Type 0 where
-  pub fluxes : (content : CellAt → ℤ) → HoldsGuards g content b (number_at (cell_extents g.shape.n g.shape.g) cells) →
+  pub fluxes : (content : CellAt → ℤ) → HoldsSides g content b (number_at (cell_extents g.shape.n g.shape.g) cells) →
       HoldsFaceField g (leaf_flux g content n) a b (number_at (face_extents g.shape.n g.shape.g a) faces)
   pub within : (i j k : ℕ) → i < longer_on a X g.shape.n → j < longer_on a Y g.shape.n → k < longer_on a Z g.shape.n →
       Within (2 ^ 56) (number_at (face_extents g.shape.n g.shape.g a) faces (g.shape.g + i) (g.shape.g + j) (g.shape.g + k))

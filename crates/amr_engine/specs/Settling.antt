@@ -1,5 +1,6 @@
 -- The cells of leaves before and after a step, and what flows out.
-use Rattle.std.specs.Prelude.{◌≡◌, ℕ, ◌+◌, ◌<◌, ◌^◌, List, ℤ, Option, Some, None, if◌then◌else◌}
+use Rattle.std.specs.Prelude.{◌≡◌, ℕ, ◌+◌, ◌<◌, ◌^◌, Bool, List, ℤ, Option, Some, None, Result, IfOk, IfErr, if◌then◌else◌}
+use Rattle.amr_num.specs.Numbers.{Within}
 use Rattle.amr_num.specs.declared.Axis.TheVariants.{X, Y, Z}
 use Rattle.amr_num.specs.declared.BlockAt.{BlockAt}
 use Rattle.amr_num.specs.declared.CellAt.{CellAt}
@@ -16,8 +17,10 @@ use Rattle.mesh_model.specs.Tree.Kinds.{Grid, is_leaf_block}
 use Rattle.block_tree.specs.Numbered.{block_at}
 use Rattle.rank_world.specs.Holding.{IsLeafNode, LeavesHold, LeavesInRange, cell_array}
 use Rattle.flux_conserve.specs.Work.{WorkHolds, WorkWithin, work_array}
-use Rattle.step_advect.specs.Applied.{Flows, flows_in}
-use Rattle.step_advect.specs.Lifts.{first_above}
+use Rattle.guard_fill.specs.Filling.{LeavesSided}
+use Rattle.step_advect.specs.Applied.{AreFluxes, AreInRange, Flows, IsApplied, first_out, flows_in, left_at, out_through}
+use Rattle.step_advect.specs.Lifts.{HoldsFlows, first_above}
+use Rattle.step_advect.specs.declared.update.RangeAt.{RangeAt}
 use Rattle.amr_engine.specs.Totals.{node_sum}
 use Rattle.amr_engine.specs.declared.hindrance.Above.{Above}
 
@@ -44,9 +47,10 @@ pub record OnlyWorkCells (old new : WorldState) : Type 0 where
 
 -- ---- before a step
 
--- the leaves hold the contents of a variable, and their work faces the fluxes at some speeds
+-- the leaves hold the contents of a variable, in their own cells and straight across their sides, and the work faces of those at a jump of level the fluxes at some speeds
 pub record AreFluxed (w : WorldState) (v : ℕ) (content : CellAt → ℤ) (n : Speeds) : Type 0 where
   pub cells : LeavesHold w v content
+  pub guarded : LeavesSided w v content
   pub faces : WorkHolds w (flux w.told.grid content n)
 
 -- the numbers of the leaves are small enough for a step
@@ -56,11 +60,29 @@ pub record MaySettle (n g : ℕ) (w : WorldState) (v : ℕ) : Type 0 where
   pub range : LeavesInRange w
   pub small : WorkWithin w (2 ^ 58)
 
+-- fluxes through the faces of a block are small enough for one
+pub record AreStepFaces (n g : ℕ) (x y z : List ℤ) : Type 0 where
+  pub along_x : AreFluxes n g X x
+  pub along_y : AreFluxes n g Y y
+  pub along_z : AreFluxes n g Z z
+
 -- what the arrays of a node have
 abbrev pub flows_at : ℕ → ℕ → WorldState → ℕ → ℕ → Flows
 flows_at n g w v node = flows_in n g (cell_array w v node) (work_array w X node) (work_array w Y node) (work_array w Z node)
 
 -- ---- after it
+
+-- a leaf's work cells have got what is left of its cells by some fluxes, which are the mesh's
+pub record IsStepped (n g : ℕ) (old new : WorldState) (v node : ℕ) (speeds : Speeds) (outer : List Bool) (result : Result ℤ RangeAt) : Type 0 where
+  pub x : List ℤ
+  pub y : List ℤ
+  pub z : List ℤ
+  pub held : (content : CellAt → ℤ) → AreFluxed old v content speeds → HoldsFlows old.told.grid content speeds (block_at old.told.grid node) (cell_array old v node) x y z
+  pub few : Within (2 ^ 70) (out_through n (flows_in n g (cell_array old v node) x y z) outer)
+  pub left : IfOk result (λ flown. IsApplied n g (flows_in n g (cell_array old v node) x y z) (work_cells old node) (work_cells new node))
+  pub in_range : IfOk result (λ flown. AreInRange n (left_at (flows_in n g (cell_array old v node) x y z)))
+  pub flown : IfOk result (λ flown. flown ≡ out_through n (flows_in n g (cell_array old v node) x y z) outer)
+  pub refused : IfErr result (λ at. first_out n (left_at (flows_in n g (cell_array old v node) x y z)) ≡ Some at)
 
 -- what cells lose through the outer sides of the domain
 abbrev pub lost : Grid → (CellAt → ℤ) → Speeds → CellAt → ℤ

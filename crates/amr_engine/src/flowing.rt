@@ -2,22 +2,24 @@
 
 ghost use Rattle.amr_num.specs.declared.Axis.{Axis as Axes};
 ghost use Rattle.amr_num.specs.declared.CellAt.{CellAt};
-ghost use Rattle.amr_engine.specs.Flowing.{AreFlowed, AreGuarded, HasFluxes, IsReady};
-ghost use Rattle.block_tree.specs.Numbered.{IsNode};
-ghost use Rattle.flux_conserve.specs.Work.{OnlyWorkFaces, WorkHolds, WorkWithin};
-ghost use Rattle.guard_fill.specs.Filling.{LeavesGuarded};
+ghost use Rattle.amr_engine.specs.Flowing.{AreFlowed, AreFluxes, AreGuarded, HasFluxes, IsReady};
+ghost use Rattle.block_tree.specs.Numbered.{IsNode, block_at};
+ghost use Rattle.flux_conserve.specs.Work.{IsJumpNode, OnlyWorkFaces, WorkHolds, WorkWithin};
+ghost use Rattle.guard_fill.specs.Filling.{LeavesSided};
 ghost use Rattle.mesh_model.specs.Fields.Advect.{is_closed_kind, keeps_courant, leaf_flux, speed as speed_on, three};
+ghost use Rattle.mesh_model.specs.Fields.ArrayPlaces.{face_extents, size_of};
 ghost use Rattle.mesh_model.specs.Fields.Ranks.{IsFit};
 ghost use Rattle.mesh_model.specs.Geometry.Blocks.{InDomain};
 ghost use Rattle.mesh_model.specs.Geometry.Coordinates.{side_index, side_kind};
 ghost use Rattle.mesh_model.specs.Geometry.Limits.{IsShape};
 ghost use Rattle.mesh_model.specs.Language.Commands.{AreThree};
-ghost use Rattle.rank_world.specs.Holding.{IsLeafNode};
+ghost use Rattle.rank_world.specs.Holding.{IsLeafNode, cell_array};
 ghost use Rattle.step_advect.specs.Lifts.{is_at_high_side, is_at_low_side};
-ghost use Rattle.std.specs.Prelude.{◌≡◌, ℤ, ◌<◌, ◌^◌, ◌&&◌, suc, true};
+ghost use Rattle.std.specs.Prelude.{◌≡◌, ℤ, ◌<◌, ◌^◌, ◌&&◌, length, suc, true};
 
 use amr_num::{Axis, BlockAt, SideKind};
 use block_store::{Beside, Cells};
+use flux_conserve::is_at_jump;
 use mesh_model::geometry::axes::{block_on, roots};
 use mesh_model::{Shape, Var};
 use rank_world::World;
@@ -88,6 +90,40 @@ fn is_closed_high(shape: &Shape, axis: Axis, block: BlockAt) -> bool
     is_last && is_closed(high_side(shape, axis))
 }
 
+/// Sets the faces of a leaf normal to an axis, in an array of their own, to the fluxes of the variable.
+pub(crate) fn flux_along<const N: usize, const G: usize>(
+    world: &World<N, G>,
+    v: u32,
+    node: u32,
+    axis: Axis,
+    speeds: [i64; 3],
+    out: &mut [i64],
+)
+    requires ready { IsReady N G world.now v (three speeds) }
+    requires speeds { AreThree (2 ^ 20) speeds }
+    requires leaf { IsLeafNode world.now.told.grid node }
+    requires out { length out.old ≡ size_of (face_extents N G axis) }
+    ensures size { length out.new ≡ length out.old }
+    ensures fluxes { AreFluxes world.now.told.grid (three speeds) axis (block_at world.now.told.grid node) (cell_array world.now v node) out.new }
+{
+    let tree = world.tree();
+    let shape = tree.shape();
+    let block = tree.at(node);
+    let closed_low = is_closed_low(&shape, axis, block);
+    let closed_high = is_closed_high(&shape, axis, block);
+    let speed = speed_along(speeds, axis);
+    let cells = Cells::<N, G>::new(world.values(Var::Cell(v), node));
+    face_fluxes(
+        &cells,
+        axis,
+        block.level,
+        speed,
+        closed_low,
+        closed_high,
+        out,
+    );
+}
+
 /// Gives the work faces of a leaf normal to an axis the fluxes of the variable.
 fn flow_axis<const N: usize, const G: usize>(
     world: &mut World<N, G>,
@@ -145,7 +181,7 @@ fn flow_leaf<const N: usize, const G: usize>(
     flow_axis(world, v, node, Axis::Z, speeds);
 }
 
-/// The same of a node, where it is a leaf.
+/// The same of a node, where it is a leaf at a jump of level.
 fn flow_node<const N: usize, const G: usize>(
     world: &mut World<N, G>,
     v: u32,
@@ -156,16 +192,17 @@ fn flow_node<const N: usize, const G: usize>(
     requires speeds { AreThree (2 ^ 20) speeds }
     requires node { IsNode world.old.told.grid node }
     ensures flowed { AreFlowed N G world.old world.new v (three speeds) }
-    ensures here { (a : Axes) → IsLeafNode world.old.told.grid node → HasFluxes world.new v (three speeds) node a }
+    ensures here { (a : Axes) → IsJumpNode world.old.told.grid node → HasFluxes world.new v (three speeds) node a }
 {
-    if world.tree().is_leaf(node) {
+    let tree = world.tree();
+    if tree.is_leaf(node) && is_at_jump(tree, tree.at(node)) {
         flow_leaf(world, v, node, speeds);
     }
 }
 
-/// Gives each work face of a leaf what the speed on its axis carries through it in a step of the variable, as the leaf
-/// itself has it, and 0 on a closed side of the domain. The guard cells of leaves must be filled, and the speeds keep
-/// the Courant limit. All else of the world stays.
+/// Gives each work face of a leaf at a jump of level what the speed on its axis carries through it in a step of the
+/// variable, as the leaf itself has it, and 0 on a closed side of the domain. The guard cells straight across the sides of leaves must be filled,
+/// and the speeds keep the Courant limit. All else of the world stays.
 pub fn flow<const N: usize, const G: usize>(world: &mut World<N, G>, v: u32, speeds: [i64; 3])
     requires fit { IsFit N G world.old }
     requires variable { v < world.old.told.counts.cells }
@@ -174,7 +211,7 @@ pub fn flow<const N: usize, const G: usize>(world: &mut World<N, G>, v: u32, spe
     requires courant { keeps_courant world.old.told.grid.shape (three speeds) ≡ true }
     ensures only { OnlyWorkFaces world.old world.new }
     ensures fit { IsFit N G world.new }
-    ensures holds { (content : CellAt → ℤ) → LeavesGuarded world.old v content
+    ensures holds { (content : CellAt → ℤ) → LeavesSided world.old v content
         → WorkHolds world.new (leaf_flux world.old.told.grid content (three speeds)) }
     ensures small { WorkWithin world.new (2 ^ 56) }
 {

@@ -17,3 +17,5 @@ pub mod Taking
 pub mod Flat
 pub mod Later
 pub mod BlocksBeside
+pub mod SideAxes
+pub mod SideFaces

@@ -6,3 +6,4 @@ pub mod Marked
 pub mod Searching
 pub mod Places
 pub mod Beside
+pub mod SideFaces

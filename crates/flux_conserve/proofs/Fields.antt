@@ -1,7 +1,7 @@
 -- The numbers of faces by places, and fields on faces by their names.
-use Rattle.std.proofs.Common.{◌≡◌, ℕ, suc, ◌+◌, ◌-◌, ◌*◌, ◌/◌, ◌%◌, ◌<◌, ◌≤◌, ◌≢◌, ◌⊎◌, Bool, true, false, not, Option, Some, None, ℤ, refl, sym, ap, subst, ◌∙◌, arith, inl, inr, eq-eqb, ne_eqb}
+use Rattle.std.proofs.Common.{◌≡◌, ℕ, suc, ◌+◌, ◌-◌, ◌*◌, ◌/◌, ◌%◌, ◌<◌, ◌≤◌, ◌≢◌, ◌⊎◌, Bool, true, false, not, ◌||◌, Option, Some, None, ℤ, refl, sym, ap, subst, ◌∙◌, arith, inl, inr, eq-eqb, ne_eqb}
 use Rattle.std.specs.Prelude.{if◌then◌else◌}
-use Rattle.std.proofs.lemmas.Bool.{cases_order}
+use Rattle.std.proofs.lemmas.Bool.{cases_Bool, cases_order}
 use Rattle.amr_num.specs.Numbers.{sum_below}
 use Rattle.amr_num.proofs.Parts.{sum_below_same}
 use Rattle.amr_num.specs.declared.Axis.{Axis}
@@ -12,7 +12,7 @@ use Rattle.amr_num.specs.declared.FaceAt.{FaceAt}
 use Rattle.mesh_model.specs.declared.geometry.Shape.{Shape}
 use Rattle.mesh_model.specs.Fields.Advect.{Speeds, flux, leaf_flux}
 use Rattle.mesh_model.specs.Fields.Views.{face_down}
-use Rattle.mesh_model.specs.Geometry.Blocks.{InDomain}
+use Rattle.mesh_model.specs.Geometry.Blocks.{InDomain, child_block}
 use Rattle.mesh_model.specs.Geometry.Coordinates.{face_of, sub_face}
 use Rattle.mesh_model.specs.Geometry.Canonical.{canonical_on}
 use Rattle.mesh_model.specs.Geometry.Places.{in_block, longer_on}
@@ -24,10 +24,11 @@ use Rattle.mesh_model.proofs.FieldLemmas.ValidGrid.{deep_face, tree}
 use Rattle.mesh_model.proofs.GeometryLemmas.Halves.{pair_inside, rest_below}
 use Rattle.mesh_model.proofs.GeometryLemmas.ShapeLimits.{cells_some}
 use Rattle.mesh_model.proofs.TreeLemmas.Tests.{refuted}
-use Rattle.mesh_model.proofs.TreeLemmas.Tiling.{leaf_says}
+use Rattle.mesh_model.proofs.TreeLemmas.Levels.{is_child}
+use Rattle.mesh_model.proofs.TreeLemmas.Tiling.{child_is_no_leaf, leaf_says}
 use Rattle.block_tree.proofs.Leaves.{split_leaf}
-use Rattle.flux_conserve.specs.Jumps.{BlockFaces, IsCalm, IsFacePlace, child_beside, corrected, face_name, finer_beside, four_finer, jumped, or_four, quarter_at, quarter_sum, side_position, spot}
-use Rattle.flux_conserve.proofs.Sides.{calm_child, calm_face, child_leaf, finer_name, split_face}
+use Rattle.flux_conserve.specs.Jumps.{BlockFaces, IsCalm, IsFacePlace, block_beside, child_beside, corrected, face_name, finer_beside, four_finer, if_split, is_at_jump, is_no_leaf, jumped, jumps_at, jumps_on, octant_on, or_four, quarter_at, quarter_sum, side_half, side_position, spot}
+use Rattle.block_tree.proofs.SideFaces.{back_again, calm_child, calm_face, child_leaf, finer_name, split_face}
 
 -- ---- places by three numbers, and by one along an axis and two across it
 
@@ -170,6 +171,46 @@ finer_place n s t r high size = record {
   second = pair_inside n (t % (n / 2)) (r / 2 % 2) size (rest_below n t size) (omega arith);
 }
 
+-- ---- leaves at a jump
+
+both_false : (u v : Bool) → (u || v) ≡ false → (u ≡ false) × (v ≡ false)
+both_false true v is = cc
+both_false false v is = (refl, is)
+
+module _ (g : Grid) (b : BlockAt) where
+  calm_on : is_at_jump g b ≡ false → (a : Axis) → jumps_on g a b ≡ false
+  unfolding is_at_jump
+  calm_on calm X = (both_false (jumps_on g X b) (jumps_on g Y b) (both_false (jumps_on g X b || jumps_on g Y b) (jumps_on g Z b) calm).0).0
+  calm_on calm Y = (both_false (jumps_on g X b) (jumps_on g Y b) (both_false (jumps_on g X b || jumps_on g Y b) (jumps_on g Z b) calm).0).1
+  calm_on calm Z = (both_false (jumps_on g X b || jumps_on g Y b) (jumps_on g Z b) calm).1
+
+  no_jump_at : is_at_jump g b ≡ false → (a : Axis) (high : Bool) → jumps_at g a high b ≡ false
+  no_jump_at calm a false = (both_false (jumps_at g a false b) (jumps_at g a true b) (calm_on calm a)).0
+  no_jump_at calm a true = (both_false (jumps_at g a false b) (jumps_at g a true b) (calm_on calm a)).1
+
+  jump_shows : (a : Axis) (high : Bool) → jumps_at g a high b ≡ true → is_at_jump g b ≡ true
+  jump_shows a high jumps = elim (cases_Bool (is_at_jump g b)) [
+    | inl is ↦ is
+    | inr calm ↦ (let none = no_jump_at calm a high in cc)
+  ]
+
+  -- a block beside that is no leaf is a jump
+  pub beside_jump : (a : Axis) (high : Bool) (d : BlockAt) → block_beside g.shape a high b ≡ Some d → is_leaf_block g d ≡ false → is_at_jump g b ≡ true
+  unfolding jumps_at
+  beside_jump a high d is none = jump_shows a high (ap (is_no_leaf g) is ∙ ap not none)
+
+  no_finer : (valid : Valid g) (o : Option BlockAt) → is_no_leaf g o ≡ false → if_split g o ≡ None
+  no_finer valid None calm = refl
+  no_finer valid (Some d) calm = elim (cases_Bool (is_split_block g d)) [
+    | inl split ↦ (let none = split_leaf g valid d split in let other : not (is_leaf_block g d) ≡ true = ap not none in cc)
+    | inr same ↦ ap (λ (t : Bool). if t then Some d else None) same
+  ]
+
+  -- at no jump there stand no finer leaves
+  pub no_jump_calm : Valid g → is_at_jump g b ≡ false → (a : Axis) (p : ℕ) → IsCalm g a b p
+  unfolding jumps_at finer_beside
+  no_jump_calm valid calm a p high is = no_finer valid (block_beside g.shape a high b) (no_jump_at calm a high)
+
 module _ (g : Grid) (valid : Valid g) (a : Axis) (high : Bool) (b d : BlockAt) (leaf : is_leaf_block g b ≡ true) (finer : finer_beside g a high b ≡ Some d) (q : ℕ) where
   -- the children of the block beside that stand at the leaf are leaves, and at the faces there stands nothing finer
   pub near_leaf : is_leaf_block g (child_beside a high q d) ≡ true
@@ -177,6 +218,13 @@ module _ (g : Grid) (valid : Valid g) (a : Axis) (high : Bool) (b d : BlockAt) (
 
   pub near_calm : IsCalm g a (child_beside a high q d) (side_position g.shape.n (not high))
   near_calm = calm_at g a (child_beside a high q d) (cells_some valid.shape) (not high) (calm_child g valid a high b d (inside g valid a b leaf) (whole g valid a b leaf) finer q)
+
+  -- they are at a jump themselves: beyond their faces would stand a child of the leaf
+  pub near_jump : is_at_jump g (child_beside a high q d) ≡ true
+  near_jump =
+      let c = child_block b (octant_on a (side_half high) q) in
+      beside_jump g (child_beside a high q d) a (not high) c (back_again g valid a high b d (inside g valid a b leaf) (whole g valid a b leaf) finer q)
+      (child_is_no_leaf g c b (is_child b (octant_on a (side_half high) q)) (whole g valid a b leaf))
 
 module _ (g : Grid) (valid : Valid g) (content : CellAt → ℤ) (n : Speeds) where
   flux_whole : (f : FaceAt) → is_split_face g f ≡ false → flux g content n f ≡ leaf_flux g content n f
@@ -212,6 +260,19 @@ module _ (g : Grid) (valid : Valid g) (content : CellAt → ℤ) (n : Speeds) wh
               let split = jump_is g valid a b leaf p s t place jump in
               flux_split f split (λ r h. sub_calm jump r) ∙ ap (λ (u : Bool). if u then sum_below 4 (λ r. own (sub_face f r)) else own f) (sym split))
         ]
+
+    -- and where no finer leaves stand, just that
+    pub flux_own : IsCalm g a b p → flux g content n (face_name g.shape a b p s t) ≡ leaf_flux g content n (face_name g.shape a b p s t)
+    flux_own calm = flux_whole (face_name g.shape a b p s t) (calm_is g valid a b leaf p s t place calm)
+
+-- so it is through all faces of a leaf at no jump
+pub fluxes_own : (g : Grid) (content : CellAt → ℤ) (n : Speeds) (b : BlockAt) (a : Axis) → Valid g → is_leaf_block g b ≡ true → is_at_jump g b ≡ false → (i j k : ℕ) →
+    i < longer_on a X g.shape.n → j < longer_on a Y g.shape.n → k < longer_on a Z g.shape.n →
+    let f = face_of a (canonical_on g.shape a (in_block g.shape.n b i j k)) in flux g content n f ≡ leaf_flux g content n f
+unfolding face_name
+fluxes_own g content n b a valid leaf calm =
+    by_spot (λ i j k. let f = face_of a (canonical_on g.shape a (in_block g.shape.n b i j k)) in flux g content n f ≡ leaf_flux g content n f) a g.shape.n
+    (λ p s t place. flux_own g valid content n a b leaf p s t place (no_jump_calm g b valid calm a p))
 
 pub fluxes_jumped : (g : Grid) (content : CellAt → ℤ) (n : Speeds) (b : BlockAt) (a : Axis) → Valid g → is_leaf_block g b ≡ true → (i j k : ℕ) →
     i < longer_on a X g.shape.n → j < longer_on a Y g.shape.n → k < longer_on a Z g.shape.n →

@@ -14,7 +14,7 @@ pub zeros_small : (n g : ℕ) (w : WorldState) → IsFit n g w → AreZero n g (
 zeros_small n g w fit zero node a leaf = record {
   at = λ i j k hi hj hk.
       let s = w.told.grid.shape in
-      puts.zero_small n g (2 ^ 56) w (FaceWork a) node (place_in (face_extents s.n s.g a) (s.g + i) (s.g + j) (s.g + k)) fit zero tt leaf.there;
+      puts.zero_small n g (2 ^ 56) w (FaceWork a) node (place_in (face_extents s.n s.g a) (s.g + i) (s.g + j) (s.g + k)) fit zero tt leaf.own.there;
 }
 
 pub put_small : (n g : ℕ) (w : WorldState) (a : Axis) (node : ℕ) (ys : List ℤ) → IsSize n g → IsFit n g w → IsNode w.told.grid node → length ys ≡ var_length n g (FaceWork a) →

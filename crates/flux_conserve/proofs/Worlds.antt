@@ -18,9 +18,9 @@ use Rattle.mesh_model.proofs.GeometryLemmas.ShapeLimits.{cells_some}
 use Rattle.block_tree.specs.Numbered.{IsNumberOf, block_at}
 use Rattle.rank_world.specs.Holding.{IsLeafNode}
 use Rattle.rank_world.proofs.Puts.{which_array}
-use Rattle.flux_conserve.specs.Jumps.{BlockFaces, IsCalm, IsFacePlace, child_beside, corrected, face_name, finer_beside, four_finer, jumped, side_position}
-use Rattle.flux_conserve.specs.Work.{AreSummed, CalmHas, IsFinerNode, IsTame, NearHas, NearWithin, SideHas, SideTaken, WorkHas, WorkHolds, WorkWithin, face_at, work_array, work_at}
-use Rattle.flux_conserve.proofs.Fields.{at_spot, by_spot, corrected_calm, corrected_jump, face_kind, field_corrected, named, near_calm, near_leaf, same_side, side_within}
+use Rattle.flux_conserve.specs.Jumps.{BlockFaces, IsCalm, IsFacePlace, child_beside, corrected, face_name, finer_beside, four_finer, is_at_jump, jumped, side_position}
+use Rattle.flux_conserve.specs.Work.{AreSummed, CalmHas, IsFinerNode, IsJumpNode, IsTame, NearHas, NearWithin, SideHas, SideTaken, WorkHas, WorkHolds, WorkWithin, face_at, work_array, work_at}
+use Rattle.flux_conserve.proofs.Fields.{at_spot, by_spot, corrected_calm, corrected_jump, face_kind, field_corrected, named, near_calm, near_jump, near_leaf, same_side, side_within}
 
 -- ---- numbers by three places, and by one along an axis and two across it
 
@@ -48,7 +48,7 @@ pub small_tame : (w : WorldState) → WorkWithin w (2 ^ 56) → IsTame w
 unfolding face_at
 small_tame w small =
     let g = w.told.grid in
-    let each : (node : ℕ) (a : Axis) (p s t : ℕ) → IsLeafNode g node → IsFacePlace g.shape.n p s t → Within (2 ^ 56) (work_at w a node p s t) =
+    let each : (node : ℕ) (a : Axis) (p s t : ℕ) → IsJumpNode g node → IsFacePlace g.shape.n p s t → Within (2 ^ 56) (work_at w a node p s t) =
     λ node a p s t leaf place.
     at_spot (λ i j k. Within (2 ^ 56) (number_at (face_extents g.shape.n g.shape.g a) (work_array w a node) (g.shape.g + i) (g.shape.g + j) (g.shape.g + k))) a g.shape.n (small node a leaf).at p s t place in
     record {
@@ -80,7 +80,7 @@ all_corrected w faces valid calm sides = record {
       elim (face_kind g a b some p) [
         | inl still ↦ calm.at node a p s t leaf place still ∙ sym (corrected_calm g a b some faces s t p still)
         | inr jump ↦
-            ap (λ q. work_at w a node q s t) jump.place ∙ (sides node a jump.high leaf).at jump.finer s t jump.there place.first place.second
+            ap (λ q. work_at w a node q s t) jump.place ∙ (sides node a jump.high leaf.own).at jump.finer s t jump.there place.first place.second
             ∙ sym (corrected_jump g a b some faces s t p jump)
       ];
 }
@@ -89,7 +89,7 @@ pub field_holds : (w : WorldState) (field : FaceAt → ℤ) → Valid w.told.gri
 field_holds w field valid has =
     let g = w.told.grid in
     has_holds w (jumped g field) (record {
-      at = λ node a p s t leaf place. has.at node a p s t leaf place ∙ field_corrected g valid a (block_at g node) leaf.leaf p s t place field;
+      at = λ node a p s t leaf place. has.at node a p s t leaf place ∙ field_corrected g valid a (block_at g node) leaf.own.leaf p s t place field;
     })
 
 -- ---- finer leaves at a side
@@ -99,10 +99,13 @@ module _ (w : WorldState) (valid : Valid w.told.grid) (node : ℕ) (a : Axis) (h
   abbrev g : Grid
   g = w.told.grid
 
-  near_node : (q child : ℕ) → IsNumberOf g (child_beside a high q (block_at g beside)) child → IsLeafNode g child
+  near_node : (q child : ℕ) → IsNumberOf g (child_beside a high q (block_at g beside)) child → IsJumpNode g child
   near_node q child is = record {
-    there = is.there;
-    leaf = ap (is_leaf_block g) is.block ∙ near_leaf g valid a high (block_at g node) (block_at g beside) leaf.leaf finer.finer q;
+    own = record {
+      there = is.there;
+      leaf = ap (is_leaf_block g) is.block ∙ near_leaf g valid a high (block_at g node) (block_at g beside) leaf.leaf finer.finer q;
+    };
+    jump = ap (is_at_jump g) is.block ∙ near_jump g valid a high (block_at g node) (block_at g beside) leaf.leaf finer.finer q;
   }
 
   near_still : (q child : ℕ) → IsNumberOf g (child_beside a high q (block_at g beside)) child → IsCalm g a (block_at g child) (side_position g.shape.n (not high))

@@ -1,5 +1,5 @@
 -- What the work faces of leaves have.
-use Rattle.std.specs.Prelude.{◌≡◌, ℕ, ◌+◌, ◌<◌, ◌^◌, Bool, not, false, Some, List, ℤ}
+use Rattle.std.specs.Prelude.{◌≡◌, ℕ, ◌+◌, ◌<◌, ◌^◌, Bool, not, true, false, Some, List, ℤ}
 use Rattle.amr_num.specs.Numbers.{Within}
 use Rattle.amr_num.specs.declared.Axis.{Axis}
 use Rattle.amr_num.specs.declared.Axis.TheVariants.{X, Y, Z}
@@ -15,7 +15,7 @@ use Rattle.mesh_model.specs.Tree.Kinds.{Grid, is_leaf_block}
 use Rattle.block_tree.specs.Numbered.{IsNode, IsNumberOf, block_at}
 pub use Rattle.block_tree.specs.Beside.{IsFinerNode}
 use Rattle.rank_world.specs.Holding.{IsLeafNode}
-use Rattle.flux_conserve.specs.Jumps.{BlockFaces, IsCalm, IsFacePlace, child_beside, finer_beside, four_finer, side_position, spot}
+use Rattle.flux_conserve.specs.Jumps.{BlockFaces, IsCalm, IsFacePlace, child_beside, finer_beside, four_finer, is_at_jump, side_position, spot}
 
 -- the number of an array of faces at a place of the block's faces
 unfoldable pub face_at : ℕ → ℕ → Axis → List ℤ → ℕ → ℕ → ℕ → ℤ
@@ -28,9 +28,18 @@ work_array w a node = array_in (rank_at w 0).own.values (FaceWork a) node
 abbrev pub work_at : WorldState → Axis → ℕ → ℕ → ℕ → ℕ → ℤ
 work_at w a node p s t = face_at w.told.grid.shape.n w.told.grid.shape.g a (work_array w a node) p s t
 
--- the work faces of each leaf hold a field, by canonical names
+-- a node is a leaf across some side of which the level jumps
+pub record IsJumpNode (g : Grid) (node : ℕ) : Type 0 where
+  pub own : IsLeafNode g node
+  pub jump : is_at_jump g (block_at g node) ≡ true
+
+-- no leaf is
+abbrev pub HasNoJump : Grid → Type 0
+HasNoJump g = (node : ℕ) → IsLeafNode g node → is_at_jump g (block_at g node) ≡ false
+
+-- the work faces of each leaf at a jump hold a field, by canonical names
 abbrev pub WorkHolds : WorldState → (FaceAt → ℤ) → Type 0
-WorkHolds w field = (node : ℕ) (a : Axis) → IsLeafNode w.told.grid node →
+WorkHolds w field = (node : ℕ) (a : Axis) → IsJumpNode w.told.grid node →
     HoldsFaceField w.told.grid field a (block_at w.told.grid node) (number_at (face_extents w.told.grid.shape.n w.told.grid.shape.g a) (work_array w a node))
 
 -- the numbers of a leaf's work faces on the block's faces are at most so great in absolute value
@@ -38,12 +47,13 @@ pub record LeafWithin (w : WorldState) (most : ℕ) (a : Axis) (node : ℕ) : Ty
   pub at : (i j k : ℕ) → let s = w.told.grid.shape in i < longer_on a X s.n → j < longer_on a Y s.n → k < longer_on a Z s.n →
       Within most (number_at (face_extents s.n s.g a) (work_array w a node) (s.g + i) (s.g + j) (s.g + k))
 
+-- those of each leaf at a jump are
 abbrev pub WorkWithin : WorldState → ℕ → Type 0
-WorkWithin w most = (node : ℕ) (a : Axis) → IsLeafNode w.told.grid node → LeafWithin w most a node
+WorkWithin w most = (node : ℕ) (a : Axis) → IsJumpNode w.told.grid node → LeafWithin w most a node
 
--- the work faces of each leaf have these numbers
+-- the work faces of each leaf at a jump have these numbers
 pub record WorkHas (w : WorldState) (faces : BlockFaces) : Type 0 where
-  pub at : (node : ℕ) (a : Axis) (p s t : ℕ) → IsLeafNode w.told.grid node → IsFacePlace w.told.grid.shape.n p s t →
+  pub at : (node : ℕ) (a : Axis) (p s t : ℕ) → IsJumpNode w.told.grid node → IsFacePlace w.told.grid.shape.n p s t →
       work_at w a node p s t ≡ faces a (block_at w.told.grid node) p s t
 
 -- arrays may have other numbers where they are work faces of leaves, and all else is as it was
@@ -54,9 +64,9 @@ pub record OnlyWorkFaces (old new : WorldState) : Type 0 where
 
 -- ---- on the way
 
--- the work faces of leaves at which no finer leaves stand have these numbers
+-- those at which no finer leaves stand do
 pub record CalmHas (w : WorldState) (faces : BlockFaces) : Type 0 where
-  pub at : (node : ℕ) (a : Axis) (p s t : ℕ) → IsLeafNode w.told.grid node → IsFacePlace w.told.grid.shape.n p s t → IsCalm w.told.grid a (block_at w.told.grid node) p →
+  pub at : (node : ℕ) (a : Axis) (p s t : ℕ) → IsJumpNode w.told.grid node → IsFacePlace w.told.grid.shape.n p s t → IsCalm w.told.grid a (block_at w.told.grid node) p →
       work_at w a node p s t ≡ faces a (block_at w.told.grid node) p s t
 
 -- a side of a leaf at which finer leaves stand has their sums
@@ -64,11 +74,11 @@ pub record SideHas (w : WorldState) (faces : BlockFaces) (node : ℕ) (a : Axis)
   pub at : (d : BlockAt) (s t : ℕ) → finer_beside w.told.grid a high (block_at w.told.grid node) ≡ Some d → s < w.told.grid.shape.n → t < w.told.grid.shape.n →
       work_at w a node (side_position w.told.grid.shape.n high) s t ≡ four_finer w.told.grid.shape.n faces a high d s t
 
--- the numbers are at most 2^56 in absolute value, or 2^58 at jumps
+-- the numbers are at most 2^56 in absolute value, or 2^58 where finer leaves stand
 pub record IsTame (w : WorldState) : Type 0 where
-  pub calm : (node : ℕ) (a : Axis) (p s t : ℕ) → IsLeafNode w.told.grid node → IsFacePlace w.told.grid.shape.n p s t → IsCalm w.told.grid a (block_at w.told.grid node) p →
+  pub calm : (node : ℕ) (a : Axis) (p s t : ℕ) → IsJumpNode w.told.grid node → IsFacePlace w.told.grid.shape.n p s t → IsCalm w.told.grid a (block_at w.told.grid node) p →
       Within (2 ^ 56) (work_at w a node p s t)
-  pub all : (node : ℕ) (a : Axis) (p s t : ℕ) → IsLeafNode w.told.grid node → IsFacePlace w.told.grid.shape.n p s t → Within (2 ^ 58) (work_at w a node p s t)
+  pub all : (node : ℕ) (a : Axis) (p s t : ℕ) → IsJumpNode w.told.grid node → IsFacePlace w.told.grid.shape.n p s t → Within (2 ^ 58) (work_at w a node p s t)
 
 -- some sides have taken their sums
 pub record AreSummed (n g : ℕ) (old new : WorldState) : Type 0 where

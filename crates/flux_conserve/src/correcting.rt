@@ -183,8 +183,8 @@ fn correct_node<const N: usize, const G: usize>(world: &mut World<N, G>, node: u
 }
 
 /// Gives each work face of a leaf beside finer leaves the sum of the four finer work faces there, wrapped on a periodic
-/// axis, so that what finer leaves lose through a side their coarser neighbour gains. All other faces of blocks, and all
-/// other arrays, stay.
+/// axis, so that what finer leaves lose through a side their coarser neighbour gains. All other faces of leaves at a jump
+/// of level, and all other arrays, stay. Of the work faces of leaves at no jump nothing is asked or told.
 pub fn correct<const N: usize, const G: usize>(world: &mut World<N, G>)
     requires fit { IsFit N G world.old }
     requires small { WorkWithin world.old (2 ^ 56) }

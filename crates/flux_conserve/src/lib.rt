@@ -3,10 +3,13 @@
 
 mod correcting;
 mod faces;
+mod jumps;
 pub mod laws;
 mod sums;
 
+
 pub use correcting::correct;
+pub use jumps::{has_jump, is_at_jump};
 
 #[cfg(test)]
 mod tests;

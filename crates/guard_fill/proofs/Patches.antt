@@ -73,7 +73,7 @@ side_of_place n g (suc zero) i h low high = let first = le-ltb i g low in let se
 side_of_place n g (suc (suc zero)) i h low high = let first = le-ltb i g (omega arith) in let second = le-ltb i (g + n) low in rw (first, second) refl
 side_of_place n g (suc (suc (suc d))) i h low high = absurd (omega arith)
 
-side_few : (n g i : ℕ) → side_at n g i < 3
+pub side_few : (n g i : ℕ) → side_at n g i < 3
 side_few n g i = elim (cases_lt i g) [
   | inl low ↦ let zero_is : side_at n g i ≡ 0 = (let test = lt-ltb i g low in rw test refl) in omega arith
   | inr some ↦ elim (cases_lt i (g + n)) [

@@ -1,7 +1,8 @@
 //! The guard cells of leaves.
 
 ghost use Rattle.amr_num.specs.declared.CellAt.{CellAt};
-ghost use Rattle.guard_fill.specs.Filling.{IsFilled, IsGathered, IsKnown, IsPatched, LeavesGuarded, OnlyGuards};
+ghost use Rattle.guard_fill.specs.Filling as asked;
+ghost use Rattle.guard_fill.specs.Filling.{IsFilled, IsFilledAsked, IsGathered, IsKnown, IsPatched, LeavesAsked, LeavesGuarded, LeavesSided, OnlyGuards};
 ghost use Rattle.guard_fill.specs.Restricting.{IsCellGroup, IsReady, cell_variable};
 ghost use Rattle.guard_fill.specs.Strips.{AreWithin, IsPatch, IsStrip, block_of};
 ghost use Rattle.mesh_model.specs.declared.fields.values.Var.TheVariants.{Cell};
@@ -25,6 +26,31 @@ use rank_world::World;
 
 /// The direction of a block's own cells.
 const OWN_CELLS: usize = 13;
+
+/// Which guard cells are filled.
+#[derive(Clone, Copy)]
+enum Guards {
+    /// All of them.
+    All,
+    /// Those that lie straight across a side of a block.
+    AcrossSides,
+}
+
+/// Whether the guard cells in a direction are filled.
+#[tactic(auto, unfolding(crate::specs::Filling::is_straight))]
+fn is_asked(guards: Guards, direction: usize) -> bool
+    ensures { result ≡ asked.is_asked guards direction }
+{
+    match guards {
+        Guards::All => true,
+        Guards::AcrossSides => {
+            let x = direction % 3 == 1;
+            let y = direction / 3 % 3 == 1;
+            let z = direction / 9 == 1;
+            (x && y) || ((x && z) || (y && z))
+        }
+    }
+}
 
 /// The places of a block's array in a direction on an axis.
 fn strip_on(
@@ -146,18 +172,45 @@ fn fill_direction<const N: usize, const G: usize>(
     read_patch(world, v, block.level, patch, room);
 }
 
+/// The same where the direction is asked for.
+fn fill_asked<const N: usize, const G: usize>(
+    world: &World<N, G>,
+    v: u32,
+    block: BlockAt,
+    guards: Guards,
+    direction: usize,
+    room: &mut [i64],
+)
+    requires ready { IsReady N G world.now v }
+    requires leaf { is_leaf_block world.now.told.grid block ≡ true }
+    requires direction { direction < 27 }
+    requires room { length room.old ≡ size_of (cell_extents N G) }
+    ensures size { length room.new ≡ length room.old }
+    ensures filled { IsFilledAsked N G guards world.now v block direction room.old room.new }
+{
+    if is_asked(guards, direction) {
+        fill_direction(world, v, block, direction, room);
+    }
+}
+
 /// Gathers the numbers of a leaf's array, its guard cells' among them.
-fn gather<const N: usize, const G: usize>(world: &World<N, G>, v: u32, node: u32, room: &mut [i64])
+fn gather<const N: usize, const G: usize>(
+    world: &World<N, G>,
+    v: u32,
+    node: u32,
+    guards: Guards,
+    room: &mut [i64],
+)
     requires ready { IsReady N G world.now v }
     requires leaf { IsLeafNode world.now.told.grid node }
     requires room { length room.old ≡ size_of (cell_extents N G) }
-    ensures { IsGathered N G world.now v node room.new }
+    ensures { IsGathered N G guards world.now v node room.new }
 {
     let block = world.tree().at(node);
     room.copy_from_slice(world.values(Var::Cell(v), node));
     for direction in 0..27 {
         if direction != OWN_CELLS {
-            fill_direction(world, v, block, direction, room);
+            fill_asked(world, v, block, guards, direction, room);
         }
     }
 }
@@ -167,6 +220,7 @@ fn fill_leaf<const N: usize, const G: usize>(
     world: &mut World<N, G>,
     v: u32,
     node: u32,
+    guards: Guards,
     room: &mut [i64],
 )
     requires ready { IsReady N G world.old v }
@@ -174,39 +228,44 @@ fn fill_leaf<const N: usize, const G: usize>(
     requires room { length room.old ≡ size_of (cell_extents N G) }
     ensures only { OnlyOf world.old world.new 0 (Cell v) node }
     ensures fit { IsFit N G world.new }
-    ensures gathered { IsGathered N G world.old v node (cell_array world.new v node) }
+    ensures gathered { IsGathered N G guards world.old v node (cell_array world.new v node) }
 {
-    gather(world, v, node, room);
+    gather(world, v, node, guards, room);
     world.values_mut(Var::Cell(v), node).copy_from_slice(room);
 }
 
 /// Writes the guard cells of all leaves.
-fn fill_variable<const N: usize, const G: usize>(world: &mut World<N, G>, v: u32, room: &mut [i64])
+fn fill_variable<const N: usize, const G: usize>(
+    world: &mut World<N, G>,
+    v: u32,
+    guards: Guards,
+    room: &mut [i64],
+)
     requires ready { IsReady N G world.old v }
     requires room { length room.old ≡ size_of (cell_extents N G) }
     ensures only { OnlyGuards world.old world.new v }
     ensures fit { IsFit N G world.new }
-    ensures guards { (content : CellAt → ℤ) → NodesHold world.old v content → LeavesGuarded world.new v content }
+    ensures guards { (content : CellAt → ℤ) → NodesHold world.old v content → LeavesAsked guards world.new v content }
 {
     for node in 0..world.tree().len() {
         if world.tree().is_leaf(node) {
-            fill_leaf(world, v, node, room);
+            fill_leaf(world, v, node, guards, room);
         }
     }
 }
 
 /// Writes the guard cells of a cell variable into all leaves.
-fn fill_cells_of<const N: usize, const G: usize>(world: &mut World<N, G>, v: u32)
+fn fill_cells_of<const N: usize, const G: usize>(world: &mut World<N, G>, v: u32, guards: Guards)
     requires fit { IsFit N G world.old }
     requires variable { v < world.old.told.counts.cells }
     ensures only { OnlyGuards world.old world.new v }
     ensures fit { IsFit N G world.new }
-    ensures guards { (content : CellAt → ℤ) → NodesHold world.old v content → LeavesGuarded world.new v content }
+    ensures guards { (content : CellAt → ℤ) → NodesHold world.old v content → LeavesAsked guards world.new v content }
 {
     let _shape = world.tree().shape();
     let side = N + 2 * G;
     let mut room = [0i64; MOST_PLACES];
-    fill_variable(world, v, &mut room[..side * (side * side)]);
+    fill_variable(world, v, guards, &mut room[..side * (side * side)]);
 }
 
 /// Writes the guard cells of a variable into all leaves: each has the view at its coordinate, wrapped on a periodic axis
@@ -220,8 +279,20 @@ pub fn fill<const N: usize, const G: usize>(world: &mut World<N, G>, group: Grou
     ensures guards { (content : CellAt → ℤ) → NodesHold world.old (cell_variable group) content → LeavesGuarded world.new (cell_variable group) content }
 {
     match group {
-        Group::Cell(v) => fill_cells_of(world, v),
+        Group::Cell(v) => fill_cells_of(world, v, Guards::All),
         Group::Face => unreachable!(),
         Group::Edge => unreachable!(),
     }
+}
+
+/// Writes those guard cells of a cell variable that lie straight across a side of a block into all leaves, as `fill` does:
+/// a step reads no others. What the guard cells at edges and corners hold is not said. All else of the world stays.
+pub fn fill_sides<const N: usize, const G: usize>(world: &mut World<N, G>, v: u32)
+    requires fit { IsFit N G world.old }
+    requires variable { v < world.old.told.counts.cells }
+    ensures only { OnlyGuards world.old world.new v }
+    ensures fit { IsFit N G world.new }
+    ensures guards { (content : CellAt → ℤ) → NodesHold world.old v content → LeavesSided world.new v content }
+{
+    fill_cells_of(world, v, Guards::AcrossSides);
 }

@@ -7,7 +7,7 @@ pub mod laws;
 mod restricting;
 mod strips;
 
-pub use filling::fill;
+pub use filling::{fill, fill_sides};
 pub use restricting::restrict_all;
 
 #[cfg(test)]

@@ -15,10 +15,11 @@ use Rattle.mesh_model.specs.Geometry.Places.{guard_index, in_block, longer_on}
 use Rattle.mesh_model.specs.Geometry.Touch.{block_on}
 use Rattle.mesh_model.specs.Tree.Kinds.{Grid}
 use Rattle.mesh_model.specs.Fields.Advect.{blown_from}
-use Rattle.mesh_model.specs.Fields.ArrayPlaces.{HoldsGuards, cell_there}
+use Rattle.mesh_model.specs.Fields.ArrayPlaces.{cell_there}
 use Rattle.mesh_model.specs.Fields.Views.{cell_view}
 use Rattle.mesh_model.proofs.FieldLemmas.Donors.{donor_inside}
 use Rattle.step_advect.specs.Fluxed.{along, donor_at, lower_by}
+use Rattle.step_advect.specs.Lifts.{HoldsBeside}
 
 brought_same : (periodic : Bool) (e p : ℕ) → p < e → brought_in periodic e (e - 1) (pos p) ≡ p
 brought_same true e p h = mod-eq_of_lt h
@@ -107,7 +108,7 @@ block_inside s Y b inside = inside.y
 block_inside s Z b inside = inside.z
 
 module _ (g : Grid) (content : CellAt → ℤ) (a : Axis) (b : BlockAt) (numbers : ℕ → ℕ → ℕ → ℤ) (shape : IsShape g.shape) (inside : InDomain g.shape b)
-    (guards : HoldsGuards g content b numbers) (i j k : ℕ) (hi : i < longer_on a X g.shape.n) (hj : j < longer_on a Y g.shape.n) (hk : k < longer_on a Z g.shape.n) where
+    (beside : HoldsBeside g content a b numbers) (i j k : ℕ) (hi : i < longer_on a X g.shape.n) (hj : j < longer_on a Y g.shape.n) (hk : k < longer_on a Z g.shape.n) where
   abbrev c : CellAt
   c = in_block g.shape.n b i j k
 
@@ -121,8 +122,7 @@ module _ (g : Grid) (content : CellAt → ℤ) (a : Axis) (b : BlockAt) (numbers
   lower_is : (h : ℕ) → h ≤ 1 → lower_by h a numbers (g.shape.g + i) (g.shape.g + j) (g.shape.g + k) ≡ cell_view g content (with a (cell_in g.shape a b.level (pos (on a c) -ℤ pos h)) c)
   lower_is h le =
       let some = some_guards shape in
-      let there = places_inside g.shape.n g.shape.g a i j k h some hi hj hk in
-      guards.at _ _ _ there.0 there.1 there.2 ∙ ap (cell_view g content) (lower_there g.shape a b i j k h inside (omega arith) hi hj hk)
+      beside.at i j k h hi hj hk le ∙ ap (cell_view g content) (lower_there g.shape a b i j k h inside (omega arith) hi hj hk)
 
   pub donor_is : (speed : ℤ) → donor_at a speed numbers (g.shape.g + i) (g.shape.g + j) (g.shape.g + k) ≡ cell_view g content (blown_from g.shape a speed c)
   donor_is (pos m) = lower_is 1 (omega arith) ∙ ap (cell_view g content) (sym (donor_inside g.shape a (pos m) c shape face_inside))

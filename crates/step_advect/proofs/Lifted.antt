@@ -14,12 +14,12 @@ use Rattle.mesh_model.specs.Geometry.Places.{in_block, longer_on}
 use Rattle.mesh_model.specs.Geometry.Touch.{block_on}
 use Rattle.mesh_model.specs.Tree.Kinds.{Grid}
 use Rattle.mesh_model.specs.Fields.Advect.{Speeds, blown_from, is_closed_kind, leaf_flux, on_closed_side}
-use Rattle.mesh_model.specs.Fields.ArrayPlaces.{HoldsFaceField, HoldsGuards, cell_extents, face_extents, number_at}
+use Rattle.mesh_model.specs.Fields.ArrayPlaces.{HoldsFaceField, cell_extents, face_extents, number_at}
 use Rattle.mesh_model.specs.Fields.Views.{cell_view}
 use Rattle.mesh_model.proofs.GeometryLemmas.ShapeLimits.{cells_some}
 use Rattle.step_advect.specs.Flux.{flux_between}
 use Rattle.step_advect.specs.Fluxed.{Flow, IsFluxed, along, is_on_side}
-use Rattle.step_advect.specs.Lifts.{IsFlowOf}
+use Rattle.step_advect.specs.Lifts.{HoldsBeside, IsFlowOf}
 use Rattle.step_advect.proofs.Donors.{block_inside, donor_is, position_is, position_within}
 use Rattle.step_advect.proofs.Seams.{flux_named}
 use Rattle.step_advect.proofs.Sides.{on_domain_side}
@@ -43,16 +43,16 @@ module _ (s : Shape) (n : Speeds) (a : Axis) (b : BlockAt) (flow : Flow) (shape 
       ∙ ap₂ (λ p e. ((p == 0) && low) || ((p == e) && high)) (position_is s.n a b i j k) (extent_turned (roots s a) s.n (2 ^ b.level))
 
 pub fluxes_of_leaves : (g : Grid) (content : CellAt → ℤ) (n : Speeds) (a : Axis) (b : BlockAt) (flow : Flow) (cells old new : List ℤ) → IsShape g.shape → InDomain g.shape b →
-    IsFlowOf g.shape n a b flow → HoldsGuards g content b (number_at (cell_extents g.shape.n g.shape.g) cells) → IsFluxed g.shape.n g.shape.g a flow cells old new →
+    IsFlowOf g.shape n a b flow → HoldsBeside g content a b (number_at (cell_extents g.shape.n g.shape.g) cells) → IsFluxed g.shape.n g.shape.g a flow cells old new →
     HoldsFaceField g (leaf_flux g content n) a b (number_at (face_extents g.shape.n g.shape.g a) new)
 unfolding flux_between
-fluxes_of_leaves g content n a b flow cells old new shape inside is guards fluxed = record {
+fluxes_of_leaves g content n a b flow cells old new shape inside is beside fluxed = record {
   at = λ i j k hi hj hk.
       let c : CellAt = in_block g.shape.n b i j k in
       let numbers = number_at (cell_extents g.shape.n g.shape.g) cells in
       fluxed.written i j k hi hj hk
       ∙ ap₂ (λ t v. if t then pos 0 else carry flow.speed flow.level v) (closed_is g.shape n a b flow shape inside is i j k hi hj hk)
-      (donor_is g content a b numbers shape inside guards i j k hi hj hk flow.speed)
+      (donor_is g content a b numbers shape inside beside i j k hi hj hk flow.speed)
       ∙ ap₂ (λ m l. if on_closed_side g.shape (face_of a c) then pos 0 else carry m l (cell_view g content (blown_from g.shape a m c))) is.speed_of is.level
       ∙ flux_named g content n a c shape;
 }

@@ -1,5 +1,5 @@
 -- What the fluxes and the step of a block are in the mesh.
-use Rattle.std.specs.Prelude.{◌≡◌, ℕ, suc, ◌*◌, ◌^◌, ◌<◌, Bool, true, not, ◌&&◌, ◌==◌, List, ℤ, Option, Some, None, find}
+use Rattle.std.specs.Prelude.{◌≡◌, ℕ, suc, ◌+◌, ◌-◌, ◌*◌, ◌^◌, ◌<◌, ◌≤◌, Bool, true, not, ◌&&◌, ◌==◌, List, ℤ, Option, Some, None, find}
 use Rattle.amr_num.specs.Numbers.{number_range}
 use Rattle.amr_num.specs.declared.Axis.{Axis}
 use Rattle.amr_num.specs.declared.Axis.TheVariants.{X, Y, Z}
@@ -7,20 +7,21 @@ use Rattle.amr_num.specs.declared.BlockAt.{BlockAt}
 use Rattle.amr_num.specs.declared.CellAt.{CellAt}
 use Rattle.mesh_model.specs.declared.geometry.Shape.{Shape}
 use Rattle.mesh_model.specs.Geometry.Blocks.{InDomain}
-use Rattle.mesh_model.specs.Geometry.Coordinates.{is_periodic, roots, side_index, side_kind}
+use Rattle.mesh_model.specs.Geometry.Coordinates.{is_periodic, roots, side_index, side_kind, step}
 use Rattle.mesh_model.specs.Geometry.Limits.{IsShape}
 use Rattle.mesh_model.specs.Geometry.Touch.{block_on}
-use Rattle.mesh_model.specs.Geometry.Places.{block_cells, in_block}
+use Rattle.mesh_model.specs.Geometry.Places.{block_cells, in_block, longer_on}
 use Rattle.mesh_model.specs.Tree.Kinds.{Grid, is_leaf_block}
 use Rattle.mesh_model.specs.Tree.ValidGrid.{Valid}
 use Rattle.mesh_model.specs.Fields.Advect.{Speeds, advected, flux, is_closed_kind, leaf_flux, on_outer, speed}
-use Rattle.mesh_model.specs.Fields.ArrayPlaces.{HoldsFaceField, HoldsGuards, HoldsViews, cell_extents, face_extents, number_at}
+use Rattle.mesh_model.specs.Fields.ArrayPlaces.{HoldsFaceField, HoldsViews, cell_extents, cell_there, face_extents, number_at}
 use Rattle.mesh_model.specs.Fields.Circulation.{net_flux}
 use Rattle.mesh_model.specs.Fields.RangeWalk.{is_above}
+use Rattle.mesh_model.specs.Fields.Views.{cell_view}
 use Rattle.mesh_model.specs.Fields.Totals.{block_sum}
 use Rattle.step_advect.specs.declared.update.RangeAt.{RangeAt}
 use Rattle.step_advect.specs.Applied.{AreInRange, IsApplied, first_out, flows_in, is_chosen, left_at, out_through}
-use Rattle.step_advect.specs.Fluxed.{Flow, IsFluxed}
+use Rattle.step_advect.specs.Fluxed.{Flow, IsFluxed, lower_by}
 
 -- the low and the high side of a block on an axis lie on those of the domain
 abbrev pub is_at_low_side : Axis → BlockAt → Bool
@@ -37,11 +38,17 @@ pub record IsFlowOf (s : Shape) (n : Speeds) (a : Axis) (b : BlockAt) (flow : Fl
   pub closed_low : flow.closed_low ≡ (is_at_low_side a b && is_closed_kind (side_kind s.sides (side_index a)))
   pub closed_high : flow.closed_high ≡ (is_at_high_side s a b && is_closed_kind (side_kind s.sides (suc (side_index a))))
 
--- where the array of a block's cells has its guard values, each of its faces gets the mesh's flux through it, as leaves have it
+-- on both sides of each face of a block normal to an axis, numbers by places are the views of a field at the cells that stand for these places
+pub record HoldsBeside (g : Grid) (content : CellAt → ℤ) (a : Axis) (b : BlockAt) (numbers : ℕ → ℕ → ℕ → ℤ) : Type 0 where
+  pub at : (i j k h : ℕ) → i < longer_on a X g.shape.n → j < longer_on a Y g.shape.n → k < longer_on a Z g.shape.n → h ≤ 1 →
+      lower_by h a numbers (g.shape.g + i) (g.shape.g + j) (g.shape.g + k)
+      ≡ cell_view g content (cell_there g.shape b (g.shape.g + i - (step a h).x) (g.shape.g + j - (step a h).y) (g.shape.g + k - (step a h).z))
+
+-- where the array of a block's cells has the views there, each of its faces gets the mesh's flux through it, as leaves have it
 abbrev pub FluxesAreOfLeaves : Type 0
 FluxesAreOfLeaves = (g : Grid) (content : CellAt → ℤ) (n : Speeds) (a : Axis) (b : BlockAt) (flow : Flow) (cells old new : List ℤ) →
     IsShape g.shape → InDomain g.shape b → IsFlowOf g.shape n a b flow →
-    HoldsGuards g content b (number_at (cell_extents g.shape.n g.shape.g) cells) →
+    HoldsBeside g content a b (number_at (cell_extents g.shape.n g.shape.g) cells) →
     IsFluxed g.shape.n g.shape.g a flow cells old new →
     HoldsFaceField g (leaf_flux g content n) a b (number_at (face_extents g.shape.n g.shape.g a) new)
 

@@ -108,75 +108,35 @@ fn blocks_have_their_fluxes(rt: HostRuntime) {
     let alloc = rt.alloc();
     let half = 524288;
     // The cell (1, 1, 1) is at the place (2, 2, 2), which is 2 + 6 * (2 + 6 * 2), and its faces on x are at the places
-    // 2 and 3 of lines of 7.
-    let low = FluxCase {
-        cell: 86,
-        content: 5,
-        axis: Axis::X,
-        level: 0,
-        speed: half,
-        closed_low: true,
-        closed_high: true,
-        face: 100,
-    };
-    let high = FluxCase { face: 101, ..low };
-    assert_eq!(rt; flux_there(alloc, low), Ok(0));
-    assert_eq!(rt; flux_there(alloc, high), Ok(2));
-    assert_eq!(rt;
-        flux_there(
-            alloc,
-            FluxCase {
-                speed: -half,
-                ..low
-            }
-        ),
-        Ok(-2)
-    );
-    assert_eq!(rt;
-        flux_there(
-            alloc,
-            FluxCase {
-                speed: -half,
-                ..high
-            }
-        ),
-        Ok(0)
-    );
-    assert_eq!(rt;
-        flux_there(
-            alloc,
-            FluxCase {
-                content: -5,
-                ..high
-            }
-        ),
-        Ok(-3)
-    );
-    assert_eq!(rt; flux_there(alloc, FluxCase { level: 1, ..high }), Ok(5));
-    assert_eq!(rt; flux_there(alloc, FluxCase { face: 0, ..low }), Ok(7));
-    // On y its high face is at the place (2, 3, 2) of lines of 6 and planes of 42, on z at (2, 2, 3) of planes of 36.
-    assert_eq!(rt;
-        flux_there(
-            alloc,
-            FluxCase {
-                axis: Axis::Y,
-                face: 104,
-                ..low
-            }
-        ),
-        Ok(2)
-    );
-    assert_eq!(rt;
-        flux_there(
-            alloc,
-            FluxCase {
-                axis: Axis::Z,
-                face: 122,
-                ..low
-            }
-        ),
-        Ok(2)
-    );
+    // 2 and 3 of lines of 7. On y its high face is at the place (2, 3, 2) of lines of 6 and planes of 42, and on z at
+    // (2, 2, 3) of planes of 36. The place 0 is none of the block's faces.
+    for (axis, level, speed, content, face, want) in [
+        (Axis::X, 0u32, half, 5i64, 100usize, 0i64),
+        (Axis::X, 0, half, 5, 101, 2),
+        (Axis::X, 0, -half, 5, 100, -2),
+        (Axis::X, 0, -half, 5, 101, 0),
+        (Axis::X, 0, half, -5, 101, -3),
+        (Axis::X, 1, half, 5, 101, 5),
+        (Axis::X, 0, half, 5, 0, 7),
+        (Axis::Y, 0, half, 5, 104, 2),
+        (Axis::Z, 0, half, 5, 122, 2),
+    ] {
+        let case = FluxCase {
+            cell: 86,
+            content,
+            axis,
+            level,
+            speed,
+            closed_low: true,
+            closed_high: true,
+            face,
+        };
+        assert_eq!(rt;
+            flux_there(alloc, case),
+            Ok(want),
+            "{face} {speed} {content}"
+        );
+    }
     block_fluxes_are_of_leaves();
 }
 

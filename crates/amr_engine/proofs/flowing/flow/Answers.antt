@@ -1,11 +1,11 @@
 use Rattle.std.proofs.Common.{◌≡◌, ℕ, length, ap, subst, sym, ◌∙◌, arith, inl, inr}
 use Rattle.std.proofs.lemmas.Bool.{cases_lt}
 use Rattle.amr_num.specs.declared.Axis.{Axis}
+use Rattle.flux_conserve.specs.Work.{IsJumpNode}
 use Rattle.mesh_model.specs.Fields.Advect.{three}
 use Rattle.mesh_model.specs.Fields.Ranks.{Told}
 use Rattle.mesh_model.specs.Tree.Kinds.{Grid}
 use Rattle.mesh_model.specs.Tree.Order.{nodes}
-use Rattle.rank_world.specs.Holding.{IsLeafNode}
 use Rattle.amr_engine.specs.Flowing.{HasFluxes}
 use Rattle.amr_engine.proofs.Flown.{holds_after, none_flowed, then_flowed, within_after}
 use Rattle.amr_engine.proofs.flowing.flow.Goals as goal
@@ -31,8 +31,8 @@ loop-node-preserved g c =
         | inl earlier ↦ step.keeps k a (c.loop-node.invariant.done k a earlier leaf)
         | inr later ↦ (
             let last : k ≡ c.loop-node.node = omega arith in
-            let here : IsLeafNode now.told.grid k = subst (λ (t : Told). IsLeafNode t.grid k) (sym before.only.told) leaf in
-            subst (λ u. HasFluxes new c.args.v speeds u a) (sym last) (c.flow_node.ensures.here a (subst (IsLeafNode now.told.grid) last here)))
+            let here : IsJumpNode now.told.grid k = subst (λ (t : Told). IsJumpNode t.grid k) (sym before.only.told) leaf in
+            subst (λ u. HasFluxes new c.args.v speeds u a) (sym last) (c.flow_node.ensures.here a (subst (IsJumpNode now.told.grid) last here)))
       ];
     }
 
@@ -43,8 +43,8 @@ returns g c =
     let speeds = three c.args.speeds in
     let only = c.loop-node.invariant.flowed.only in
     let many : c.len-node-end.result ≡ length (nodes old.told.grid.leaves) = c.len-node-end.ensures.value ∙ ap (λ (h : Grid). length (nodes h.leaves)) c.tree.ensures in
-    let all : (k : ℕ) (a : Axis) → IsLeafNode old.told.grid k → HasFluxes now c.args.v speeds k a =
-    λ k a leaf. let there = leaf.there in c.loop-node.invariant.done k a (omega arith) leaf in
+    let all : (k : ℕ) (a : Axis) → IsJumpNode old.told.grid k → HasFluxes now c.args.v speeds k a =
+    λ k a leaf. let there = leaf.own.there in c.loop-node.invariant.done k a (omega arith) leaf in
     record {
       only = only;
       fit = c.loop-node.invariant.flowed.ready.fit;

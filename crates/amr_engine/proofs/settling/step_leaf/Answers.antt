@@ -24,7 +24,7 @@ apply-requires-clause-arrays g c =
     let small : (a : Axis) → AreFacesWithin (2 ^ 58) n e a (number_at (face_extents n e a) (work_array c.args.world.now a c.args.node)) = λ a. faces_of n e c.args.world.now c.args.v c.args.node a c.requires.may c.requires.leaf in
     record {
       whole = ap length lent.gives_a ∙ lent.sizes 0 (omega arith);
-      in_range = subst (λ xs. AreInRange n (inner e (number_at (cell_extents n e) xs))) (sym lent.gives_a) (range_of n e c.args.world.now c.args.v c.args.node c.requires.may c.requires.leaf);
+      in_range = subst (λ xs. AreInRange n (inner e (number_at (cell_extents n e) xs))) (sym lent.gives_a) (range_of n e c.args.world.now c.args.v c.args.node c.requires.may c.requires.leaf.own);
       along_x = record { whole = ap length lent.gives_b ∙ lent.sizes 1 (omega arith); small = subst (λ xs. AreFacesWithin (2 ^ 58) n e X (number_at (face_extents n e X) xs)) (sym lent.gives_b) (small X) };
       along_y = record { whole = ap length lent.gives_c ∙ lent.sizes 2 (omega arith); small = subst (λ xs. AreFacesWithin (2 ^ 58) n e Y (number_at (face_extents n e Y) xs)) (sym lent.gives_c) (small Y) };
       along_z = record { whole = ap length lent.gives_d ∙ lent.sizes 3 (omega arith); small = subst (λ xs. AreFacesWithin (2 ^ 58) n e Z (number_at (face_extents n e Z) xs)) (sym lent.gives_d) (small Z) };
@@ -36,7 +36,7 @@ returns-clause-only g c = only_of c.args.world.now CellWork c.args.node c.apply.
 pub returns-clause-fit : goal.returns-clause-fit
 returns-clause-fit g c =
     let w = c.args.world.now in
-    let has = has_array g.row.N g.row.G w CellWork c.args.node c.requires.may.fit c.requires.leaf.there tt in
+    let has = has_array g.row.N g.row.G w CellWork c.args.node c.requires.may.fit c.requires.leaf.own.there tt in
     let size : IsSize g.row.N g.row.G = size_by g.row.N g.row.G w.told.grid.shape (subst IsShape (c.shape-shape.ensures.value ∙ ap (λ (h : Grid). h.shape) c.tree.ensures) c.shape-shape.ensures.limits) c.requires.may.fit.sizes in
     fit_after w CellWork c.args.node c.apply.new.out c.requires.may.fit.one g.row.N g.row.G size c.requires.may.fit has
 
@@ -48,7 +48,7 @@ returns-clause-left g c =
     let node = c.args.node in
     let xs = c.apply.new.out in
     let lent = c.beside-out.ensures.reads in
-    let has = has_array n e w CellWork node c.requires.may.fit c.requires.leaf.there tt in
+    let has = has_array n e w CellWork node c.requires.may.fit c.requires.leaf.own.there tt in
     let size : IsSize n e = size_by n e w.told.grid.shape (subst IsShape (c.shape-shape.ensures.value ∙ ap (λ (h : Grid). h.shape) c.tree.ensures) c.shape-shape.ensures.limits) c.requires.may.fit.sizes in
     let long : length xs ≡ var_length n e CellWork = c.apply.auto.out ∙ lent.whole in
     let is = written_in w CellWork node xs c.requires.may.fit.one n e size c.requires.may.fit has long in

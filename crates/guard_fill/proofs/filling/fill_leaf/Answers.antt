@@ -23,4 +23,4 @@ returns-clause-gathered g c =
     let has = has_array n e w (Cell c.args.v) c.args.node c.requires.ready.fit c.requires.leaf.there c.requires.ready.variable in
     let long : length xs ≡ var_length n e (Cell c.args.v) = c.copy_from_slice.ensures.len ∙ c.values_mut.ensures.whole in
     let is = written_in w (Cell c.args.v) c.args.node xs c.requires.ready.fit.one n e c.requires.ready.size c.requires.ready.fit has long in
-    subst (IsGathered n e w c.args.v c.args.node) (sym (is ∙ c.copy_from_slice.ensures.after)) c.gather.ensures
+    subst (IsGathered n e c.args.guards w c.args.v c.args.node) (sym (is ∙ c.copy_from_slice.ensures.after)) c.gather.ensures

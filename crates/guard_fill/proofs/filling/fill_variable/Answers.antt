@@ -4,7 +4,7 @@ use Rattle.mesh_model.specs.Tree.Order.{nodes}
 use Rattle.mesh_model.specs.Fields.Ranks.{Told}
 use Rattle.block_tree.specs.Numbered.{IsNode, block_at}
 use Rattle.rank_world.specs.Holding.{IsLeafNode}
-use Rattle.guard_fill.specs.Filling.{NodeGuarded}
+use Rattle.guard_fill.specs.Filling.{NodeAsked}
 use Rattle.guard_fill.proofs.Filled.{one_filled, one_guarded}
 use Rattle.guard_fill.proofs.Restricted.{ready_after}
 use Rattle.guard_fill.proofs.filling.fill_variable.Goals as goal
@@ -58,15 +58,15 @@ loop-node-preserved g c =
             leaf = subst (λ (h : Grid). is_leaf_block h (block_at h node) ≡ true) grid (sym c.is_leaf.ensures ∙ p.if-is_leaf.true);
           } in
           rw p.world-is (record {
-            only = one_filled n e now mid new v node inv.fit.sizes inv.only p.fill_leaf.ensures.only leaf p.fill_leaf.ensures.gathered;
+            only = one_filled n e c.args.guards now mid new v node inv.fit.sizes inv.only p.fill_leaf.ensures.only leaf p.fill_leaf.ensures.gathered;
             fit = p.fill_leaf.ensures.fit;
-            guards = λ content holds. one_guarded n e now mid new v node inv.fit.sizes inv.only p.fill_leaf.ensures.only leaf p.fill_leaf.ensures.gathered content holds (inv.guards content holds);
+            guards = λ content holds. one_guarded n e c.args.guards now mid new v node inv.fit.sizes inv.only p.fill_leaf.ensures.only leaf p.fill_leaf.ensures.gathered content holds (inv.guards content holds);
           })
       | else-is_leaf p ↦
           let inner : is_leaf_block now.told.grid (block_at now.told.grid node) ≡ false = subst (λ (h : Grid). is_leaf_block h (block_at h node) ≡ false) grid (sym c.is_leaf.ensures ∙ p.if-is_leaf.false) in
           rw p.world-is (record {
             only = inv.only;
             fit = inv.fit;
-            guards = λ content holds. below_more (λ k. IsLeafNode now.told.grid k → NodeGuarded mid v content k) node (inv.guards content holds) (λ leaf. (let yes = leaf.leaf in cc));
+            guards = λ content holds. below_more (λ k. IsLeafNode now.told.grid k → NodeAsked c.args.guards mid v content k) node (inv.guards content holds) (λ leaf. (let yes = leaf.leaf in cc));
           })
     ]

@@ -9,7 +9,8 @@ use Rattle.mesh_model.specs.Geometry.Touch.{high_end, low_end}
 use Rattle.mesh_model.proofs.FieldLemmas.Beside.{Follows, above_in, above_out, before_after, below_follows}
 use Rattle.mesh_model.proofs.FieldLemmas.Sums.{wrapped_end, wrapped_inside}
 use Rattle.mesh_model.proofs.TreeLemmas.Touching.{Meet, meet_times}
-use Rattle.flux_conserve.specs.Jumps.{beside_on, side_half, side_position}
+use Rattle.block_tree.specs.Beside.{beside_on}
+use Rattle.block_tree.specs.SideFaces.{side_half, side_position}
 
 -- ---- positions
 

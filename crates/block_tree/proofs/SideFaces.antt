@@ -21,8 +21,9 @@ use Rattle.mesh_model.proofs.GeometryLemmas.OnAxes.{on_with, with_level, with_wi
 use Rattle.mesh_model.proofs.TreeLemmas.Levels.{calm_block, is_child, split_level}
 use Rattle.mesh_model.proofs.TreeLemmas.Tiling.{IsChild, child_of_split, child_of_whole, double}
 use Rattle.mesh_model.proofs.TreeLemmas.Touching.{Meet, Touch}
-use Rattle.flux_conserve.specs.Jumps.{IsCalm, beside_on, block_beside, block_moved, block_with, child_beside, face_name, finer_beside, if_split, octant_on, quarter_at, side_half, side_position, spot}
-use Rattle.flux_conserve.proofs.Axes.{Neighbours, above_high, above_own, back, below_low, below_own, ends_meet, halves_meet, neighbours, seam}
+use Rattle.block_tree.specs.Beside.{beside_on, block_beside, block_moved, block_with, finer_beside, if_split}
+use Rattle.block_tree.specs.SideFaces.{IsCalm, child_beside, face_name, octant_on, quarter_at, side_half, side_position, spot}
+use Rattle.block_tree.proofs.SideAxes.{Neighbours, above_high, above_own, back, below_low, below_own, ends_meet, halves_meet, neighbours, seam}
 use Rattle.block_tree.proofs.BlocksBeside.{whole_beside}
 
 -- ---- cells of blocks by the places along an axis and across it
@@ -307,7 +308,7 @@ module _ (g : Grid) (valid : Valid g) (a : Axis) (high : Bool) (b d : BlockAt) (
   child_is = ap (λ e. child_block e (octant_on a (side_half (not high)) q)) (sym there.block) ∙ child_half a b there.at (side_half (not high)) q (half_less (not high))
 
   -- beyond the child stands a child of the leaf
-  back_again : block_beside g.shape a (not high) (child_beside a high q d) ≡ Some (child_block b (octant_on a (side_half high) q))
+  pub back_again : block_beside g.shape a (not high) (child_beside a high q d) ≡ Some (child_block b (octant_on a (side_half high) q))
   back_again =
       ap (block_beside g.shape a (not high)) child_is
       ∙ beside_half g.shape a (not high) b (2 * there.at + side_half (not high)) q (Some (2 * block_on a b + side_half high))
