@@ -15,11 +15,14 @@ use Rattle.block_store.specs.declared.above.CountedFaces.{CountedFaces}
 abbrev pub above_at : (ℕ → ℕ → ℕ → ℤ) → ℕ → ℕ → ℕ → Option Above
 above_at numbers i j k = if is_above (2 ^ 40) (numbers i j k) then Some (record { i = i; j = j; k = k; value = numbers i j k }) else None
 
--- a place of a block of n cells along each axis counts: each cell does, and each face but for those on its low or its high side where these
--- are left out
+-- a face of a block of n cells along each axis counts, but for those on its low or its high side where these are left out
+abbrev pub is_counted_face : ℕ → CountedFaces → ℕ → ℕ → ℕ → Bool
+is_counted_face n f i j k = (f.low || not (position f.axis i j k == 0)) && (f.high || not (position f.axis i j k == n))
+
+-- so it does among what counts, as each cell does
 abbrev pub is_counted : ℕ → Counted → ℕ → ℕ → ℕ → Bool
 is_counted n Cells i j k = true
-is_counted n (Faces f) i j k = (f.low || not (position f.axis i j k == 0)) && (f.high || not (position f.axis i j k == n))
+is_counted n (Faces f) i j k = is_counted_face n f i j k
 
 -- the number at a place that counts
 abbrev pub counted_at : ℕ → Counted → (ℕ → ℕ → ℕ → ℤ) → ℕ → ℕ → ℕ → Option Above
@@ -36,5 +39,8 @@ first_in_plane n c numbers along k m = first_below m (λ j. first_below along (�
 abbrev pub first_in_block : (ℕ → ℕ → ℕ → ℤ) → ℕ → Option Above
 first_in_block cells n = first_in_box n (above_at cells)
 
+abbrev pub counted_face_at : ℕ → CountedFaces → (ℕ → ℕ → ℕ → ℤ) → ℕ → ℕ → ℕ → Option Above
+counted_face_at n f numbers i j k = if is_counted_face n f i j k then above_at numbers i j k else None
+
 abbrev pub first_in_faces : (ℕ → ℕ → ℕ → ℤ) → ℕ → CountedFaces → Option Above
-first_in_faces faces n f = first_in_places (longer_on f.axis X n) (longer_on f.axis Y n) (longer_on f.axis Z n) (counted_at n (Faces f) faces)
+first_in_faces faces n f = first_in_places (longer_on f.axis X n) (longer_on f.axis Y n) (longer_on f.axis Z n) (counted_face_at n f faces)

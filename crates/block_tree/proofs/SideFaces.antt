@@ -175,7 +175,7 @@ module _ (g : Grid) (a : Axis) (b : BlockAt) (some : 0 < g.shape.n) (inside : In
   outer_lies false d = block_of_spot g a d (g.shape.n - 1) s t (omega arith) hs ht
   outer_lies true d = block_of_spot g a d 0 s t some hs ht
 
-  calm_side : (high : Bool) → finer_beside g a high b ≡ None → is_split_face g (face_name g.shape a b (side_position g.shape.n high) s t) ≡ false
+  pub calm_side : (high : Bool) → finer_beside g a high b ≡ None → is_split_face g (face_name g.shape a b (side_position g.shape.n high) s t) ≡ false
   unfolding finer_beside
   calm_side high none = side_split high ∙ calm_holds g (block_beside g.shape a high b) (λ d. cell g.shape.n a d (outer_place g.shape.n high) s t) (outer_lies high) none
 

@@ -2,12 +2,14 @@
 
 mod adjacent;
 pub mod axes;
+mod canonical;
 pub mod coordinates;
 mod outside;
 mod touch;
 
 pub use adjacent::{above, around_edge, below, side_cells};
 use amr_num::SideKind;
+pub use canonical::canonical_face;
 pub use outside::{inside_cell, inside_edge, inside_face};
 pub use touch::touches;
 

@@ -16,6 +16,6 @@ pub use geometry::coordinates::{
     half_edge, parent_cell, parent_edge, parent_face, sub_cell, sub_face,
 };
 pub use geometry::{
-    Shape, around_edge, inside_cell, inside_edge, inside_face, side_cells, touches,
+    Shape, around_edge, canonical_face, inside_cell, inside_edge, inside_face, side_cells, touches,
 };
 pub use tree::NodeKind;

@@ -4,3 +4,5 @@ pub mod Contents
 pub mod FaceContents
 pub mod Puts
 pub mod FaceBlocks
+pub mod FaceRange
+pub mod Found

@@ -7,3 +7,4 @@ pub mod Starting
 pub mod Puts
 pub mod RankLends
 pub mod WorldLends
+pub mod FaceRange

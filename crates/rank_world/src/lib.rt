@@ -3,11 +3,13 @@
 //! There is one rank, and it holds all nodes.
 #![tactic(auto)]
 
+mod faces;
 mod known;
 mod rank;
 mod taking;
 mod world;
 
+pub use faces::{FaceAbove, first_face_above};
 pub use known::Known;
 pub use rank::Rank;
 pub use world::World;

@@ -19,56 +19,10 @@ use Rattle.mesh_model.specs.declared.fields.spot.RangeStop.{RangeStop}
 use Rattle.mesh_model.specs.declared.fields.spot.Spot.TheVariants as spots
 use Rattle.mesh_model.proofs.FieldLemmas.FirstFound.{box_mapped, box_same}
 use Rattle.mesh_model.specs.Fields.Ranks.{IsSized}
-use Rattle.block_tree.proofs.Next.{has_key}
+pub use Rattle.rank_world.proofs.Found.{inside_of, small_block, was_found}
 use Rattle.block_store.specs.Above.{above_at, first_in_block}
 use Rattle.regrid_move.specs.Near.{block_stop, view_stop}
 use Rattle.block_store.specs.declared.above.Above.{Above}
-
--- what is found is at a place below n
-pub was_found : {A : Type 0} (n : ℕ) (at : ℕ → Option A) (x : A) → first_below n at ≡ Some x → (k : ℕ) × (k < n) × (at k ≡ Some x)
-was_found zero at x is = cc
-was_found (suc n) at x is = was_or n at x (first_below n at) (was_found n at x) is
-  where
-    was_or : {A : Type 0} (n : ℕ) (at : ℕ → Option A) (x : A) (before : Option A) → (before ≡ Some x → (k : ℕ) × (k < n) × (at k ≡ Some x)) → option_or before (at n) ≡ Some x →
-        (k : ℕ) × (k < suc n) × (at k ≡ Some x)
-    was_or n at x None found is = (n, omega arith, is)
-    was_or n at x (Some y) found is = let it = found is in let less = it.1 in (it.0, omega arith, it.2)
-
--- a number that is told is told with its place
-told_place : (cells : ℕ → ℕ → ℕ → ℤ) (i j k : ℕ) (a : Above) → above_at cells i j k ≡ Some a → (a.i ≡ i) × (a.j ≡ j) × (a.k ≡ k)
-told_place cells i j k a is = elim (cases_Bool (is_above (2 ^ 40) (cells i j k))) [
-  | inl above ↦ (cc, cc, cc)
-  | inr below ↦ (cc, cc, cc)
-]
-
-pub inside_of : (cells : ℕ → ℕ → ℕ → ℤ) (n : ℕ) (a : Above) → first_in_block cells n ≡ Some a → (a.i < n) × (a.j < n) × (a.k < n)
-inside_of cells n a is =
-    let z = was_found n (λ k. first_below n (λ j. first_below n (λ i. above_at cells i j k))) a is in
-    let y = was_found n (λ j. first_below n (λ i. above_at cells i j z.0)) a z.2 in
-    let x = was_found n (λ i. above_at cells i y.0 z.0) a y.2 in
-    let place = told_place cells x.0 y.0 z.0 a x.2 in
-    (subst (λ m. m < n) (sym place.0) x.1, subst (λ m. m < n) (sym place.1) y.1, subst (λ m. m < n) (sym place.2) z.1)
-
--- a block's coordinates are small
-small_power : (l : ℕ) → l ≤ 10 → 2 ^ l ≤ 1024
-small_power l h = elim (cases_lt l 11) [
-  | inl less ↦ power_up l 10 h
-  | inr more ↦ absurd (omega arith)
-]
-  where
-    power_up : (a b : ℕ) → a ≤ b → 2 ^ a ≤ 2 ^ b
-    power_up a zero h = let none : a ≡ zero = omega arith in subst (λ m. 2 ^ m ≤ 1) (sym none) (omega arith)
-    power_up a (suc b) h = elim (cases_lt b a) [
-      | inl above ↦ (let same : a ≡ suc b = omega arith in subst (λ m. 2 ^ m ≤ 2 ^ suc b) (sym same) (omega arith))
-      | inr below ↦ (let low = power_up a b (omega arith) in omega arith)
-    ]
-
-pub small_block : (s : Shape) (b : BlockAt) → IsShape s → InDomain s b → (b.x < 8192) × (b.y < 8192) × (b.z < 8192)
-small_block s b shape inside =
-    let key = has_key s b shape inside in
-    let power = small_power b.level key.level in
-    let x = key.x in let y = key.y in let z = key.z in
-    (omega arith, omega arith, omega arith)
 
 -- what is told of a number that is found
 abbrev pub told_of : ℕ → ℕ → BlockAt → Above → RangeStop

@@ -6,7 +6,7 @@ use Rattle.std.specs.List.{range_with_len}
 use Rattle.std.specs.Option.{option_or, option_map}
 use Rattle.std.proofs.lemmas.Bool.{cases_Bool, cases_lt}
 use Rattle.std.proofs.lemmas.List.Folds.{find-append}
-use Rattle.mesh_model.specs.Fields.Firsts.{first_below, first_in_box}
+use Rattle.mesh_model.specs.Fields.Firsts.{first_below, first_in_box, first_in_places}
 use Rattle.mesh_model.specs.Geometry.Places.{box_list}
 
 -- nothing found so far, one more is looked at
@@ -61,15 +61,18 @@ found_in_map p f (suc n) =
     ∙ ap₂ (λ a b. option_or a b) (found_in_map p f n) (ap (λ m. find p (f m ∷ [])) (omega arith) ∙ one_found p (f n))
 
 -- in a box
-pub found_in_box : {B : Type 0} (p : B → Bool) (f : ℕ → ℕ → ℕ → B) (n : ℕ) → find p (box_list n n n f) ≡ first_in_box n (λ i j k. if p (f i j k) then Some (f i j k) else None)
-found_in_box p f n =
-    found_in_flat p (λ k. flat_map (λ j. map (λ i. f i j k) (range_with_len 0 n)) (range_with_len 0 n)) n
-    ∙ first_same n (λ k. find p (flat_map (λ j. map (λ i. f i j k) (range_with_len 0 n)) (range_with_len 0 n)))
-    (λ k. first_below n (λ j. first_below n (λ i. if p (f i j k) then Some (f i j k) else None)))
+pub found_in_places : {B : Type 0} (p : B → Bool) (f : ℕ → ℕ → ℕ → B) (x y z : ℕ) → find p (box_list x y z f) ≡ first_in_places x y z (λ i j k. if p (f i j k) then Some (f i j k) else None)
+found_in_places p f x y z =
+    found_in_flat p (λ k. flat_map (λ j. map (λ i. f i j k) (range_with_len 0 x)) (range_with_len 0 y)) z
+    ∙ first_same z (λ k. find p (flat_map (λ j. map (λ i. f i j k) (range_with_len 0 x)) (range_with_len 0 y)))
+    (λ k. first_below y (λ j. first_below x (λ i. if p (f i j k) then Some (f i j k) else None)))
     (λ k h.
-    found_in_flat p (λ j. map (λ i. f i j k) (range_with_len 0 n)) n
-    ∙ first_same n (λ j. find p (map (λ i. f i j k) (range_with_len 0 n))) (λ j. first_below n (λ i. if p (f i j k) then Some (f i j k) else None))
-    (λ j l. found_in_map p (λ i. f i j k) n))
+    found_in_flat p (λ j. map (λ i. f i j k) (range_with_len 0 x)) y
+    ∙ first_same y (λ j. find p (map (λ i. f i j k) (range_with_len 0 x))) (λ j. first_below x (λ i. if p (f i j k) then Some (f i j k) else None))
+    (λ j l. found_in_map p (λ i. f i j k) x))
+
+pub found_in_box : {B : Type 0} (p : B → Bool) (f : ℕ → ℕ → ℕ → B) (n : ℕ) → find p (box_list n n n f) ≡ first_in_box n (λ i j k. if p (f i j k) then Some (f i j k) else None)
+found_in_box p f n = found_in_places p f n n n
 
 -- what is found among mapped things
 pub first_mapped : {A B : Type 0} (g : A → B) (n : ℕ) (at : ℕ → Option A) → option_map g (first_below n at) ≡ first_below n (λ k. option_map g (at k))
@@ -80,15 +83,21 @@ first_mapped g (suc n) at = or_mapped g (first_below n at) (at n) ∙ ap (λ p. 
     or_mapped g None q = refl
     or_mapped g (Some x) q = refl
 
-pub box_mapped : {A B : Type 0} (g : A → B) (n : ℕ) (at : ℕ → ℕ → ℕ → Option A) → option_map g (first_in_box n at) ≡ first_in_box n (λ i j k. option_map g (at i j k))
-box_mapped g n at =
-    first_mapped g n (λ k. first_below n (λ j. first_below n (λ i. at i j k)))
-    ∙ first_same n (λ k. option_map g (first_below n (λ j. first_below n (λ i. at i j k)))) (λ k. first_below n (λ j. first_below n (λ i. option_map g (at i j k))))
+pub places_mapped : {A B : Type 0} (g : A → B) (x y z : ℕ) (at : ℕ → ℕ → ℕ → Option A) → option_map g (first_in_places x y z at) ≡ first_in_places x y z (λ i j k. option_map g (at i j k))
+places_mapped g x y z at =
+    first_mapped g z (λ k. first_below y (λ j. first_below x (λ i. at i j k)))
+    ∙ first_same z (λ k. option_map g (first_below y (λ j. first_below x (λ i. at i j k)))) (λ k. first_below y (λ j. first_below x (λ i. option_map g (at i j k))))
     (λ k h.
-    first_mapped g n (λ j. first_below n (λ i. at i j k))
-    ∙ first_same n (λ j. option_map g (first_below n (λ i. at i j k))) (λ j. first_below n (λ i. option_map g (at i j k))) (λ j l. first_mapped g n (λ i. at i j k)))
+    first_mapped g y (λ j. first_below x (λ i. at i j k))
+    ∙ first_same y (λ j. option_map g (first_below x (λ i. at i j k))) (λ j. first_below x (λ i. option_map g (at i j k))) (λ j l. first_mapped g x (λ i. at i j k)))
+
+pub box_mapped : {A B : Type 0} (g : A → B) (n : ℕ) (at : ℕ → ℕ → ℕ → Option A) → option_map g (first_in_box n at) ≡ first_in_box n (λ i j k. option_map g (at i j k))
+box_mapped g n at = places_mapped g n n n at
+
+pub places_same : {A : Type 0} (x y z : ℕ) (at to : ℕ → ℕ → ℕ → Option A) → ((i j k : ℕ) → i < x → j < y → k < z → at i j k ≡ to i j k) → first_in_places x y z at ≡ first_in_places x y z to
+places_same x y z at to same =
+    first_same z (λ k. first_below y (λ j. first_below x (λ i. at i j k))) (λ k. first_below y (λ j. first_below x (λ i. to i j k)))
+    (λ k hk. first_same y (λ j. first_below x (λ i. at i j k)) (λ j. first_below x (λ i. to i j k)) (λ j hj. first_same x (λ i. at i j k) (λ i. to i j k) (λ i hi. same i j k hi hj hk)))
 
 pub box_same : {A : Type 0} (n : ℕ) (at to : ℕ → ℕ → ℕ → Option A) → ((i j k : ℕ) → i < n → j < n → k < n → at i j k ≡ to i j k) → first_in_box n at ≡ first_in_box n to
-box_same n at to same =
-    first_same n (λ k. first_below n (λ j. first_below n (λ i. at i j k))) (λ k. first_below n (λ j. first_below n (λ i. to i j k)))
-    (λ k hk. first_same n (λ j. first_below n (λ i. at i j k)) (λ j. first_below n (λ i. to i j k)) (λ j hj. first_same n (λ i. at i j k) (λ i. to i j k) (λ i hi. same i j k hi hj hk)))
+box_same n at to same = places_same n n n at to same

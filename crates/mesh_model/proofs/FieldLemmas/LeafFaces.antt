@@ -73,7 +73,7 @@ canonical_high s Z c i = canonical_wrapped (is_periodic s Z) (extent s Z c.level
 
 -- ---- leaf faces and faces with a split side
 
-pub Either : Grid → FaceAt → Type 0
+unfoldable pub Either : Grid → FaceAt → Type 0
 Either g f = (is_split_face g f ≡ true) ⊎ (is_leaf_face g f ≡ true)
 
 pub record Seen (g : Grid) (f : FaceAt) : Type 0 where
