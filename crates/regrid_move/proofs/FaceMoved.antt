@@ -12,7 +12,7 @@ use Rattle.mesh_model.specs.Geometry.Blocks.{InDomain, LiesIn, child_block}
 use Rattle.mesh_model.specs.Geometry.Canonical.{canonical_on}
 use Rattle.mesh_model.specs.Geometry.Coordinates.{face_of}
 use Rattle.mesh_model.specs.Geometry.Places.{in_block, longer_on}
-use Rattle.mesh_model.specs.Fields.ArrayPlaces.{HoldsFaces, extents_of, number_at}
+use Rattle.mesh_model.specs.Fields.ArrayPlaces.{HoldsFaceField, HoldsFaces, extents_of, face_extents, number_at}
 use Rattle.mesh_model.specs.Fields.FinePlaces.{FaceOctantHolds, FineSumsAreSmall, IsSummed, faces_in, half_extents}
 use Rattle.mesh_model.specs.Fields.Octants.{half_at}
 use Rattle.mesh_model.specs.Fields.Plain.{Mesh}
@@ -33,7 +33,9 @@ use Rattle.block_tree.specs.Numbered.{block_at}
 use Rattle.rank_world.specs.Holding.{IsLeafNode, IsOfValidMesh, face_array}
 use Rattle.rank_world.proofs.FaceBlocks.{split_face_there}
 use Rattle.restrict_op.proofs.FaceOctants.{face_along, four_view, whole_below}
-use Rattle.regrid_move.specs.FaceMoves.{AxisMoved, AxisOctantMoved, FacesMoved, MayMoveFaces, OnlyFacesOf}
+use Rattle.regrid_move.specs.FaceMoves.{AxisMoved, AxisOctantMoved, FacesMoved, MayMoveAllFaces, MayMoveFaces, OnlyFaces, OnlyFacesOf}
+use Rattle.regrid_move.specs.Near.{AreNear}
+use Rattle.rank_world.specs.FaceRange.{HasField}
 
 -- ---- worlds of which faces are written
 
@@ -165,3 +167,51 @@ child_small n e old new a q child node valid may leaf is =
     let listed = leaf_says old.told.grid (block_at old.told.grid child) leaf.leaf in
     let below = subst (λ c. IsIn c old.told.grid.leaves) is listed in
     sums_small n e old a b q child may.old_fit may.mesh may.declared leaf is (over_split old.told.grid b q below) (over_domain old.told.grid valid b q below)
+
+-- ---- new leaves, one after the other
+
+-- a field on faces that is held in one grid is held in another of its shape
+pub same_shape : (g h : Grid) (field : FaceAt → ℤ) (a : Axis) (b : BlockAt) (xs : List ℤ) → g.shape ≡ h.shape → HoldsFaceField g field a b (faces_in g a xs) → HoldsFaceField h field a b (faces_in h a xs)
+same_shape g h field a b xs same holds = record {
+  at = subst (λ (s : Shape). (i j k : ℕ) → i < longer_on a X s.n → j < longer_on a Y s.n → k < longer_on a Z s.n →
+      number_at (face_extents s.n s.g a) xs (s.g + i) (s.g + j) (s.g + k) ≡ field (face_of a (canonical_on s a (in_block s.n b i j k)))) same holds.at;
+}
+
+-- a new leaf with the old views of its faces has them as a field
+pub moved_field : (old new : WorldState) (field : FaceAt → ℤ) (node : ℕ) → new.told.grid.shape ≡ old.told.grid.shape → FacesMoved old new field node → HasField new (face_view old.told.grid field) node
+moved_field old new field node same moved a =
+    same_shape old.told.grid new.told.grid (face_view old.told.grid field) a (block_at new.told.grid node) (face_array new a node) (sym same) (moved a)
+
+-- where faces of another node are written a node keeps its own
+pub faces_stay : (old b c : WorldState) (field : FaceAt → ℤ) (node k : ℕ) → OnlyFacesOf b c node → (k ≡ node → ⊥) → FacesMoved old b field k → FacesMoved old c field k
+faces_stay old b c field node k only apart moved a =
+    subst (λ (t : Told). HoldsFaces old.told.grid field a (block_at t.grid k) (faces_in old.told.grid a (face_array c a k))) (sym only.told)
+    (subst (λ xs. HoldsFaces old.told.grid field a (block_at b.told.grid k) (faces_in old.told.grid a xs)) (sym (only.others (Face a) k (λ x is at. apart at))) (moved a))
+
+pub faces_again : (a b c : WorldState) (node : ℕ) → OnlyFaces a b → OnlyFacesOf b c node → OnlyFaces a c
+faces_again a b c node before only = record { told = only.told ∙ before.told; others = λ u at none. only.others u at (λ x is same. none x is) ∙ before.others u at none }
+
+pub no_faces : (a : WorldState) → OnlyFaces a a
+no_faces a = record { told = refl; others = λ u at none. refl }
+
+-- a leaf of the new tree into which faces may be moved
+pub may_leaf : (n g : ℕ) (old a b : WorldState) (node : ℕ) → MayMoveAllFaces n g old a → b.told ≡ a.told → IsFit n g b → IsLeafNode b.told.grid node → MayMoveFaces n g old b node
+may_leaf n g old a b node may told fit leaf = record {
+  old_fit = may.old_fit;
+  new_fit = fit;
+  declared = may.declared;
+  counts = ap (λ (t : Told). t.counts) told ∙ may.counts;
+  shape = ap (λ (t : Told). t.grid.shape) told ∙ may.near.shape;
+  mesh = may.mesh;
+  leaf = leaf;
+}
+
+pub may_all_again : (n g : ℕ) (old a b : WorldState) → MayMoveAllFaces n g old a → b.told ≡ a.told → IsFit n g b → MayMoveAllFaces n g old b
+may_all_again n g old a b may told fit = record {
+  old_fit = may.old_fit;
+  new_fit = fit;
+  declared = may.declared;
+  counts = ap (λ (t : Told). t.counts) told ∙ may.counts;
+  near = subst (λ (t : Told). AreNear old.told.grid t.grid) (sym told) may.near;
+  mesh = may.mesh;
+}

@@ -1,19 +1,14 @@
 -- The faces of new leaves, from those of old ones.
-use Rattle.std.specs.Prelude.{◌≡◌, ℕ, ◌<◌, ◌^◌, Option, None, Some, ◌&&◌, if◌then◌else◌, ℤ}
-use Rattle.std.specs.Option.{option_or}
+use Rattle.std.specs.Prelude.{◌≡◌, ℕ, ◌<◌, Option, None, if◌then◌else◌, ℤ}
+use Rattle.std.specs.Option.{option_map}
 use Rattle.amr_num.specs.declared.Axis.{Axis}
-use Rattle.amr_num.specs.declared.Axis.TheVariants.{X, Y, Z}
 use Rattle.amr_num.specs.declared.BlockAt.{BlockAt}
 use Rattle.amr_num.specs.declared.FaceAt.{FaceAt}
-use Rattle.mesh_model.specs.Geometry.Canonical.{canonical_on}
-use Rattle.mesh_model.specs.Geometry.Coordinates.{face_of}
-use Rattle.mesh_model.specs.Geometry.Places.{in_block, longer_on}
-use Rattle.mesh_model.specs.Tree.Kinds.{Grid, is_leaf_block, is_leaf_face}
+use Rattle.mesh_model.specs.Tree.Kinds.{Grid, is_leaf_block}
 use Rattle.mesh_model.specs.Fields.ArrayPlaces.{HoldsFaces}
 use Rattle.mesh_model.specs.Fields.Arrays.{array_in}
 use Rattle.mesh_model.specs.Fields.FinePlaces.{FaceOctantHolds, faces_in}
-use Rattle.mesh_model.specs.Fields.Firsts.{first_below, first_in_places}
-use Rattle.mesh_model.specs.Fields.RangeWalk.{is_above}
+use Rattle.mesh_model.specs.Fields.Firsts.{first_below}
 use Rattle.mesh_model.specs.Fields.Ranks.{IsFit, WorldState, rank_at}
 use Rattle.mesh_model.specs.Fields.Views.{face_view}
 use Rattle.mesh_model.specs.declared.fields.values.Var.{Var}
@@ -22,6 +17,9 @@ use Rattle.mesh_model.specs.declared.fields.values.Group.TheVariants as groups
 use Rattle.mesh_model.specs.declared.fields.spot.RangeStop.{RangeStop}
 use Rattle.mesh_model.specs.declared.fields.spot.Spot.TheVariants as spots
 use Rattle.block_tree.specs.Numbered.{block_at}
+use Rattle.regrid_move.specs.Near.{AreNear}
+use Rattle.rank_world.specs.FaceRange.{first_above}
+use Rattle.rank_world.specs.declared.faces.FaceAbove.{FaceAbove}
 use Rattle.rank_world.specs.Holding.{IsLeafNode, IsOfValidMesh, face_array}
 
 -- the face variable of the old world may be moved into a leaf of the new one
@@ -33,6 +31,15 @@ pub record MayMoveFaces (n g : ℕ) (old new : WorldState) (node : ℕ) : Type 0
   pub shape : new.told.grid.shape ≡ old.told.grid.shape
   pub mesh : IsOfValidMesh old
   pub leaf : IsLeafNode new.told.grid node
+
+-- it may be moved into each leaf of the new one
+pub record MayMoveAllFaces (n g : ℕ) (old new : WorldState) : Type 0 where
+  pub old_fit : IsFit n g old
+  pub new_fit : IsFit n g new
+  pub declared : 0 < old.told.counts.faces
+  pub counts : new.told.counts ≡ old.told.counts
+  pub near : AreNear old.told.grid new.told.grid
+  pub mesh : IsOfValidMesh old
 
 -- the faces of one node may have other numbers, and all else is as it was
 pub record OnlyFacesOf (old new : WorldState) (node : ℕ) : Type 0 where
@@ -60,19 +67,13 @@ LeafFacesMoved old new field = (node : ℕ) → IsLeafNode new.told.grid node �
 
 -- ---- views out of range
 
--- what is told of the old view of a leaf face of the new grid, where it is above 2^40 in absolute value
-abbrev pub face_stop : Grid → Grid → (FaceAt → ℤ) → FaceAt → Option RangeStop
-face_stop old new field f =
-    if is_leaf_face new f && is_above (2 ^ 40) (face_view old field f) then Some (record { var = groups.Face; spot = spots.Face f; value = face_view old field f }) else None
+-- what is told of a leaf face that is out of range
+abbrev pub face_range : FaceAbove → RangeStop
+face_range found = record { var = groups.Face; spot = spots.Face found.face; value = found.value }
 
--- of the first such face of a block normal to an axis, and of the first of all
-abbrev pub axis_stop : Grid → Grid → (FaceAt → ℤ) → BlockAt → Axis → Option RangeStop
-axis_stop old new field b a =
-    let n = new.shape.n in
-    first_in_places (longer_on a X n) (longer_on a Y n) (longer_on a Z n) (λ i j k. face_stop old new field (face_of a (canonical_on new.shape a (in_block n b i j k))))
-
+-- of the first leaf face of a new leaf, by the old grid's views
 abbrev pub block_face_stop : Grid → Grid → (FaceAt → ℤ) → BlockAt → Option RangeStop
-block_face_stop old new field b = option_or (axis_stop old new field b X) (option_or (axis_stop old new field b Y) (axis_stop old new field b Z))
+block_face_stop old new field b = option_map face_range (first_above new (face_view old field) b)
 
 -- in a node of the new grid where that is a leaf, and in the walk over the leaves
 abbrev pub node_face_stop : Grid → Grid → (FaceAt → ℤ) → ℕ → Option RangeStop

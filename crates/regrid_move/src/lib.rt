@@ -7,6 +7,7 @@
 mod faces;
 mod leaves;
 mod moving;
+mod ranging;
 mod regridding;
 mod splitting;
 
