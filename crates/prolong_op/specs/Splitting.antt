@@ -2,20 +2,24 @@
 use Rattle.std.specs.Prelude.{◌≡◌, ℕ, ◌+◌, ◌*◌, ◌/◌, ◌%◌, ◌^◌, ◌<◌, ◌≤◌, ◌⊎◌, Bool, true, false, not, ◌&&◌, if◌then◌else◌, length, List, ℤ}
 use Rattle.amr_num.specs.declared.Axis.{Axis}
 use Rattle.amr_num.specs.declared.Axis.TheVariants.{X, Y, Z}
-use Rattle.amr_num.specs.Numbers.{Within}
+use Rattle.amr_num.specs.Numbers.{Within, part}
 use Rattle.mesh_model.specs.Geometry.Places.{longer_on}
 use Rattle.mesh_model.specs.Fields.ArrayPlaces.{Box, Extents, IsInBox, face_extents, number_at}
-use Rattle.mesh_model.specs.Fields.FaceSplits.{face_box, face_part, is_kept_side, position}
+use Rattle.mesh_model.specs.Fields.FaceSplits.{face_above, face_box, is_kept_side, position}
 use Rattle.mesh_model.specs.Fields.InnerRule.{Outer}
-use Rattle.mesh_model.specs.Fields.Views.{is_even}
+use Rattle.mesh_model.specs.Fields.Views.{cross, is_even}
 
 -- a face at a position on its axis is a part of the parent's
 abbrev pub is_part : ℕ → ℕ → Axis → ℕ → Bool
 is_part n kept a p = not (is_kept_side n kept a p) && is_even p
 
+-- what a face (i, j, k) is given: its part of the parent's face where it is one, and what it had elsewhere
+unfoldable pub given : ℕ → ℕ → Axis → ℕ → ℕ → ℕ → ℤ → ℤ → ℤ
+given n kept a i j k whole old = if is_part n kept a (position a i j k) then part (cross a (i % 2) (j % 2) (k % 2)) whole 4 else old
+
 -- what the face (i, j, k) of the child q has as the parts are there
 abbrev pub part_or_old : ℕ → ℕ → ℕ → ℕ → Axis → (ℕ → ℕ → ℕ → ℤ) → (ℕ → ℕ → ℕ → ℤ) → ℕ → ℕ → ℕ → ℤ
-part_or_old n g q kept a parent old i j k = if is_part n kept a (position a i j k) then face_part n g q a parent i j k else old (g + i) (g + j) (g + k)
+part_or_old n g q kept a parent old i j k = given n kept a i j k (face_above n g q parent i j k) (old (g + i) (g + j) (g + k))
 
 -- the faces of a block at even positions are in range
 pub record EvenAreSmall (n g : ℕ) (faces : Axis → ℕ → ℕ → ℕ → ℤ) : Type 0 where

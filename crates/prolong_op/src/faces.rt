@@ -1,6 +1,5 @@
 //! Parts of faces, and the faces between them.
 
-ghost use Rattle.amr_num.specs.Numbers as numbers;
 ghost use Rattle.amr_num.specs.Numbers.{Within, at};
 ghost use Rattle.amr_num.specs.declared.Axis.TheVariants.{X, Y, Z};
 ghost use Rattle.amr_num.specs.declared.Axis.{Axis as Axes};
@@ -12,7 +11,7 @@ ghost use Rattle.mesh_model.specs.Fields.Views as views;
 ghost use Rattle.mesh_model.specs.Fields.Views.{inner_face};
 ghost use Rattle.mesh_model.specs.Geometry.Places.{longer_on};
 ghost use Rattle.prolong_op.specs.Splitting as splitting;
-ghost use Rattle.prolong_op.specs.Splitting.{AreBetween, AreSides, EvenAreSmall, SidesAreSmall, four_box, middle_box, part_or_old};
+ghost use Rattle.prolong_op.specs.Splitting.{AreBetween, AreSides, EvenAreSmall, SidesAreSmall, four_box, given, middle_box, part_or_old};
 ghost use Rattle.prolong_op.specs.Sides.{sides_of};
 ghost use Rattle.std.specs.Prelude.{◌≡◌, ℕ, ◌+◌, ◌*◌, ◌/◌, ◌%◌, ◌^◌, ◌<◌, ◌≤◌, if◌then◌else◌, length};
 
@@ -135,8 +134,9 @@ fn quarter(axis: Axis, i: usize, j: usize, k: usize) -> u32
 }
 
 /// What a face is given: where it is a part, its part of `whole`, and `old` elsewhere.
+#[tactic(auto, unfolding(crate::specs::Splitting::given))]
 fn part_or(split: Split, axis: Axis, i: usize, j: usize, k: usize, whole: i64, old: i64) -> i64
-    ensures { result ≡ (if splitting.is_part split.n split.kept axis (splits.position axis i j k) then numbers.part (views.cross axis (i % 2) (j % 2) (k % 2)) whole 4 else old) }
+    ensures { result ≡ given split.n split.kept axis i j k whole old }
 {
     if is_part(split, axis, position(axis, i, j, k)) {
         part(quarter(axis, i, j, k), whole, 4)
@@ -156,11 +156,9 @@ struct Row {
 /// What the faces of a row are given, from those of the parent from a place on and from what they had.
 fn part_line(split: Split, row: Row, parent: &[i64], from: usize, old: &[i64], out: &mut [i64])
     requires old { length old.now ≡ length out.old }
-    requires short { from + length out.old ≤ 2 ^ 32 }
     requires inside { (t : ℕ) → t < length out.old → from + t / 2 < length parent.now }
     ensures size { length out.new ≡ length out.old }
-    ensures parts { (t : ℕ) → t < length out.old → at out.new t ≡ (if splitting.is_part split.n split.kept row.axis (splits.position row.axis t row.j row.k)
-        then numbers.part (views.cross row.axis (t % 2) (row.j % 2) (row.k % 2)) (at parent.now (from + t / 2)) 4 else at old.now t) }
+    ensures parts { (t : ℕ) → t < length out.old → at out.new t ≡ given split.n split.kept row.axis t row.j row.k (at parent.now (from + t / 2)) (at old.now t) }
 {
     for t in 0..out.len() {
         out[t] = part_or(split, row.axis, t, row.j, row.k, parent[from + t / 2], old[t]);
@@ -193,31 +191,30 @@ fn faces_along(n: usize, axis: Axis) -> Extents
     }
 }
 
-/// Gives the `m`-th row of a child's faces normal to an axis their parts of the parent's.
-fn part_row(split: Split, axis: Axis, parent: &[i64], child: &mut [i64], m: usize)
+/// Gives a row of a child's faces normal to an axis their parts of the parent's.
+fn part_row(split: Split, line: Row, parent: &[i64], child: &mut [i64])
     requires size { IsSize split.n split.g }
     requires octant { split.q < 8 }
-    requires parent { length parent.now ≡ size_of (face_extents split.n split.g axis) }
-    requires child { length child.old ≡ size_of (face_extents split.n split.g axis) }
-    requires row { m < longer_on axis Y split.n * longer_on axis Z split.n }
-    ensures { let e = face_extents split.n split.g axis in let b = face_box split.n split.g axis in
-        IsRowWritten (row_of e b m) b.along_x
-        (λ t. part_or_old split.n split.g split.q split.kept axis (number_at e parent.now) (number_at e child.old) t (m % b.along_y) (m / b.along_y)) child.old child.new }
+    requires parent { length parent.now ≡ size_of (face_extents split.n split.g line.axis) }
+    requires child { length child.old ≡ size_of (face_extents split.n split.g line.axis) }
+    requires inside { (line.j < longer_on line.axis Y split.n) × (line.k < longer_on line.axis Z split.n) }
+    ensures { let e = face_extents split.n split.g line.axis in
+        IsRowWritten (places.place_in e split.g (split.g + line.j) (split.g + line.k)) (longer_on line.axis X split.n)
+        (λ t. part_or_old split.n split.g split.q split.kept line.axis (number_at e parent.now) (number_at e child.old) t line.j line.k) child.old child.new }
 {
     let Split { n, g, q, kept: _ } = split;
+    let Row { axis, j, k } = line;
     let half = n / 2;
     let extents = Extents::of_faces(n, g, axis);
-    let along = faces_along(n, axis);
-    let j = m % along.y;
-    let k = m / along.y;
+    let many = faces_along(n, axis).x;
     let x = g + half * (q % 2);
     let y = g + half * (q / 2 % 2) + j / 2;
     let z = g + half * (q / 4 % 2) + k / 2;
     let from = place(extents, x, y, z);
     let mut room = [0i64; 9];
-    let out = &mut room[..along.x];
-    let old = row(extents, child, g, g + j, g + k, along.x);
-    part_line(split, Row { axis, j, k }, parent, from, old, out);
+    let out = &mut room[..many];
+    let old = row(extents, child, g, g + j, g + k, many);
+    part_line(split, line, parent, from, old, out);
     write_row(extents, g, g + j, g + k, out, child);
 }
 
@@ -232,7 +229,9 @@ fn part_faces(split: Split, axis: Axis, parent: &[i64], child: &mut [i64])
 {
     let along = faces_along(split.n, axis);
     for m in 0..along.y * along.z {
-        part_row(split, axis, parent, child, m);
+        let j = m % along.y;
+        let k = m / along.y;
+        part_row(split, Row { axis, j, k }, parent, child);
     }
 }
 
