@@ -45,23 +45,29 @@ module _ (n g : ℕ) (size : IsSize n g) where
   faces_fit Y = record { x = omega arith; y = omega arith; z = omega arith }
   faces_fit Z = record { x = omega arith; y = omega arith; z = omega arith }
 
-  -- half of a coordinate in an octant, at cells and at positions
-  cell_above : (r i : ℕ) → i < n → g + half_at n r + i / 2 < side n g
-  cell_above r i h =
-      let room : n / 2 * (r % 2) + i / 2 < n = by_size (λ m. i < m → m / 2 * (r % 2) + i / 2 < m) n size.cells (λ l. omega arith) (λ l. omega arith) h in
-      omega arith
+  -- the place of the parent in which a child's place lies, at cells and at positions
+  cell_half : (r i : ℕ) → i < n → half_at n r + i / 2 < n
+  cell_half r i h = by_size (λ m. i < m → m / 2 * (r % 2) + i / 2 < m) n size.cells (λ l. omega arith) (λ l. omega arith) h
 
-  position_above : (r i : ℕ) → i < n + 1 → g + half_at n r + i / 2 < side n g + 1
-  position_above r i h =
-      let room : n / 2 * (r % 2) + i / 2 ≤ n = by_size (λ m. i < m + 1 → m / 2 * (r % 2) + i / 2 ≤ m) n size.cells (λ l. omega arith) (λ l. omega arith) h in
-      omega arith
+  position_half : (r i : ℕ) → i < n + 1 → half_at n r + i / 2 < n + 1
+  position_half r i h = by_size (λ m. i < m + 1 → m / 2 * (r % 2) + i / 2 < m + 1) n size.cells (λ l. omega arith) (λ l. omega arith) h
+
+  pub above_in_block : (a : Axis) (q i j k : ℕ) → i < longer_on a X n → j < longer_on a Y n → k < longer_on a Z n →
+      (half_at n q + i / 2 < longer_on a X n) × (half_at n (q / 2) + j / 2 < longer_on a Y n) × (half_at n (q / 4) + k / 2 < longer_on a Z n)
+  above_in_block X q i j k hi hj hk = (position_half q i hi, cell_half (q / 2) j hj, cell_half (q / 4) k hk)
+  above_in_block Y q i j k hi hj hk = (cell_half q i hi, position_half (q / 2) j hj, cell_half (q / 4) k hk)
+  above_in_block Z q i j k hi hj hk = (cell_half q i hi, cell_half (q / 2) j hj, position_half (q / 4) k hk)
 
   -- the parent's face of which one is a part stands within the parent's array
   pub above_inside : (a : Axis) (q i j k : ℕ) → i < longer_on a X n → j < longer_on a Y n → k < longer_on a Z n → let e = face_extents n g a in
       (g + half_at n q + i / 2 < e.x) × (g + half_at n (q / 2) + j / 2 < e.y) × (g + half_at n (q / 4) + k / 2 < e.z)
-  above_inside X q i j k hi hj hk = (position_above q i hi, cell_above (q / 2) j hj, cell_above (q / 4) k hk)
-  above_inside Y q i j k hi hj hk = (cell_above q i hi, position_above (q / 2) j hj, cell_above (q / 4) k hk)
-  above_inside Z q i j k hi hj hk = (cell_above q i hi, cell_above (q / 2) j hj, position_above (q / 4) k hk)
+  above_inside a q i j k hi hj hk =
+      let l = above_in_block a q i j k hi hj hk in
+      let f = faces_fit a in
+      let x = f.x in
+      let y = f.y in
+      let z = f.z in
+      (omega arith, omega arith, omega arith)
 
   pub from_inside : (a : Axis) (q t j k : ℕ) → t < longer_on a X n → j < longer_on a Y n → k < longer_on a Z n → let e = face_extents n g a in
       place_in e (g + half_at n q) (g + half_at n (q / 2) + j / 2) (g + half_at n (q / 4) + k / 2) + t / 2 < size_of e

@@ -1,5 +1,5 @@
-use Rattle.prolong_op.proofs.FaceNames.{even_face}
+use Rattle.prolong_op.proofs.FaceChildren.{children_split}
 use Rattle.prolong_op.proofs.laws.face_children_hold_views.Goals as goal
 
 pub returns : goal.returns
-returns c = ?
+returns c = children_split
