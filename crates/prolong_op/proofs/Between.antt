@@ -1,13 +1,13 @@
 -- The faces between octants, cell by cell.
-use Rattle.std.proofs.Common.{◌≡◌, ℕ, zero, suc, ◌+◌, ◌-◌, ◌*◌, ◌/◌, ◌%◌, ◌^◌, ◌<◌, ◌≤◌, ◌⊎◌, ◌==◌, Bool, true, false, List, ℤ, refl, sym, ap, ap₂, ◌∙◌, arith, inl, inr, subst, eq-eqb}
-use Rattle.std.proofs.lemmas.Bool.{cases_Bool, cases_lt}
+use Rattle.std.proofs.Common.{◌≡◌, ℕ, ◌+◌, ◌*◌, ◌/◌, ◌%◌, ◌^◌, ◌<◌, true, false, List, ℤ, refl, sym, ap, ap₂, ◌∙◌, arith, inl, inr, subst, eq-eqb}
+use Rattle.std.proofs.lemmas.Bool.{cases_lt}
 use Rattle.amr_num.specs.declared.Axis.{Axis}
 use Rattle.amr_num.specs.declared.Axis.TheVariants.{X, Y, Z}
 use Rattle.amr_num.specs.Numbers.{Within}
 use Rattle.mesh_model.specs.Geometry.Coordinates.{quarter}
 use Rattle.mesh_model.specs.Geometry.Places.{longer_on}
-use Rattle.mesh_model.specs.Fields.ArrayPlaces.{Box, IsInBox, IsSize, IsWritten, face_extents, number_at}
-use Rattle.mesh_model.specs.Fields.FaceSplits.{all_faces, face_between, face_box, four_from, position, sides_from}
+use Rattle.mesh_model.specs.Fields.ArrayPlaces.{IsInBox, IsSize, IsWritten, face_extents, number_at}
+use Rattle.mesh_model.specs.Fields.FaceSplits.{face_between, face_box, position, sides_from}
 use Rattle.mesh_model.specs.Fields.InnerRule.{Outer}
 use Rattle.mesh_model.specs.Fields.Views.{inner_face, is_even}
 use Rattle.mesh_model.proofs.FieldLemmas.Inside.{not_even}
@@ -49,16 +49,40 @@ module _ (n g : ℕ) (size : IsSize n g) where
   even_place : (a : Axis) (x y z u v w q : ℕ) → x ≡ g + u → y ≡ g + v → z ≡ g + w → u % 2 ≡ 0 → v % 2 ≡ 0 → w % 2 ≡ 0 →
       u < longer_on a X n → v < longer_on a Y n → w < longer_on a Z n → EvenPlace n g a (x + (quarter a q).x) (y + (quarter a q).y) (z + (quarter a q).z)
   even_place X x y z u v w q ex ey ez pu pv pw hu hv hw = let t = twice_half in record {
-    i = u; j = v + q % 2; k = w + q / 2 % 2;
-    at_x = omega arith; at_y = omega arith; at_z = omega arith; in_x = hu; in_y = omega arith; in_z = omega arith; even = even_is u pu;
+    i = u;
+    j = v + q % 2;
+    k = w + q / 2 % 2;
+    at_x = omega arith;
+    at_y = omega arith;
+    at_z = omega arith;
+    in_x = hu;
+    in_y = omega arith;
+    in_z = omega arith;
+    even = even_is u pu;
   }
   even_place Y x y z u v w q ex ey ez pu pv pw hu hv hw = let t = twice_half in record {
-    i = u + q % 2; j = v; k = w + q / 2 % 2;
-    at_x = omega arith; at_y = omega arith; at_z = omega arith; in_x = omega arith; in_y = hv; in_z = omega arith; even = even_is v pv;
+    i = u + q % 2;
+    j = v;
+    k = w + q / 2 % 2;
+    at_x = omega arith;
+    at_y = omega arith;
+    at_z = omega arith;
+    in_x = omega arith;
+    in_y = hv;
+    in_z = omega arith;
+    even = even_is v pv;
   }
   even_place Z x y z u v w q ex ey ez pu pv pw hu hv hw = let t = twice_half in record {
-    i = u + q % 2; j = v + q / 2 % 2; k = w;
-    at_x = omega arith; at_y = omega arith; at_z = omega arith; in_x = omega arith; in_y = omega arith; in_z = hw; even = even_is w pw;
+    i = u + q % 2;
+    j = v + q / 2 % 2;
+    k = w;
+    at_x = omega arith;
+    at_y = omega arith;
+    at_z = omega arith;
+    in_x = omega arith;
+    in_y = omega arith;
+    in_z = hw;
+    even = even_is w pw;
   }
 
   -- the cell (i, j, k) of the parent's octant
@@ -206,7 +230,7 @@ module _ (n g : ℕ) (size : IsSize n g) where
               let inside = face_inside a i j k hi hj hk in
               is.stays (g + i) (g + j) (g + k) inside.0 inside.1 inside.2
               (λ box. (let there = in_cell a x y z i j k box in
-                  elim h [ inl even ↦ (let odd = there.3 in cc) | inr later ↦ (let same = number_is c i j k there.0 there.1 there.2 in absurd (omega arith)) ]))
+              elim h [ inl even ↦ (let odd = there.3 in cc) | inr later ↦ (let same = number_is c i j k there.0 there.1 there.2 in absurd (omega arith)) ]))
               ∙ so_far.waits i j k hi hj hk (elim h [ inl even ↦ inl even | inr later ↦ inr (omega arith) ]);
           stays = λ i j k hi hj hk out.
               is.stays i j k hi hj hk (λ box. out (middle_inside a x y z i j k cell.x cell.y cell.z box))

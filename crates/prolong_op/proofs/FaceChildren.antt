@@ -1,5 +1,5 @@
 -- A child whose faces were split from its parent's holds the views of a field.
-use Rattle.std.proofs.Common.{◌≡◌, ℕ, suc, ◌+◌, ◌-◌, ◌*◌, ◌/◌, ◌%◌, ◌<◌, ◌≤◌, Bool, true, false, not, ◌&&◌, ◌||◌, ◌==◌, List, ℤ, refl, sym, ap, ap₂, ◌∙◌, arith, inl, inr, subst, eq-eqb, eqb-true, Option, Some}
+use Rattle.std.proofs.Common.{◌≡◌, ℕ, suc, ◌+◌, ◌-◌, ◌*◌, ◌/◌, ◌%◌, ◌<◌, Bool, true, false, not, ◌&&◌, ◌||◌, ◌==◌, List, ℤ, refl, sym, ap, ap₂, ◌∙◌, arith, inl, inr, subst, eq-eqb, eqb-true, Some}
 use Rattle.std.specs.Prelude.{if◌then◌else◌}
 use Rattle.std.proofs.lemmas.Bool.{cases_Bool, cases_lt}
 use Rattle.amr_num.specs.declared.Axis.{Axis}
@@ -18,7 +18,7 @@ use Rattle.mesh_model.specs.Fields.ArrayPlaces.{HoldsFaces, IsSize}
 use Rattle.mesh_model.specs.Fields.FaceSplits.{AreFacesSplit, FaceChildrenAreSplit, KeptSidesHold, OtherSidesLieInside, all_faces, face_between, face_part, is_kept_side, is_side, position, sides_from, split_face}
 use Rattle.mesh_model.specs.Fields.FinePlaces.{faces_in}
 use Rattle.mesh_model.specs.Fields.Octants.{half_at}
-use Rattle.mesh_model.specs.Fields.Views.{cross, face_view, face_view_at, inner_face, is_even, quarter_of, sides_of}
+use Rattle.mesh_model.specs.Fields.Views.{cross, face_view, face_view_at, inner_face, is_even, sides_of}
 use Rattle.mesh_model.proofs.FieldLemmas.Beside.{three, wrapped_before}
 use Rattle.mesh_model.proofs.FieldLemmas.BlockOctants.{block_of_cell}
 use Rattle.mesh_model.proofs.FieldLemmas.CellKinds.{wide_of}
@@ -223,9 +223,9 @@ module _ (g : Grid) (b : BlockAt) (q : ℕ) (valid : Valid g) (domain : InDomain
           let rule = face_between e a (all_faces n e new) i j k in
           (split a).written i j k hi hj hk
           ∙ (elim (cases_Bool s) [
-              | inl stays ↦ pick_kept s (is_even p) was its rule stays ∙ held.at a i j k hi hj hk stays
-              | inr free ↦ pick_part s (is_even p) was its rule free even ∙ part_view a i j k hi hj hk free even
-            ])
+            | inl stays ↦ pick_kept s (is_even p) was its rule stays ∙ held.at a i j k hi hj hk stays
+            | inr free ↦ pick_part s (is_even p) was its rule free even ∙ part_view a i j k hi hj hk free even
+          ])
 
       -- so do four of them on the side of a cell
       side_view : (a : Axis) (x y z u v w r : ℕ) → let d = quarter a r in x ≡ g.shape.g + 2 * u → y ≡ g.shape.g + 2 * v → z ≡ g.shape.g + 2 * w →
@@ -332,9 +332,9 @@ module _ (g : Grid) (b : BlockAt) (q : ℕ) (valid : Valid g) (domain : InDomain
           ∙ pick_rule s (is_even p) was its rule free odd
           ∙ ap (λ h. inner_face h a (i % 2) (j % 2) (k % 2)) (sides_are (i / 2) (j / 2) (k / 2) half.0 half.1 half.2)
           ∙ sym (view
-              ∙ ap (λ m. inner_face (sides_of g (face_view g field) m) a ((2 * c.x + o % 2) % 2) ((2 * c.y + o / 2 % 2) % 2) ((2 * c.z + o / 4 % 2) % 2)) (parent_of_sub c o)
-              ∙ ap (λ x. inner_face (sides_of g (face_view g field) c) a x ((2 * c.y + o / 2 % 2) % 2) ((2 * c.z + o / 4 % 2) % 2)) bx
-              ∙ ap₂ (λ y z. inner_face (sides_of g (face_view g field) c) a (i % 2) y z) by bz)
+          ∙ ap (λ m. inner_face (sides_of g (face_view g field) m) a ((2 * c.x + o % 2) % 2) ((2 * c.y + o / 2 % 2) % 2) ((2 * c.z + o / 4 % 2) % 2)) (parent_of_sub c o)
+          ∙ ap (λ x. inner_face (sides_of g (face_view g field) c) a x ((2 * c.y + o / 2 % 2) % 2) ((2 * c.z + o / 4 % 2) % 2)) bx
+          ∙ ap₂ (λ y z. inner_face (sides_of g (face_view g field) c) a (i % 2) y z) by bz)
           ∙ ap (λ m. face_view g field (face_of a m)) (sym same)
           ∙ ap (face_view g field) (sym (name_among a i j k l.0 l.1 l.2))
 

@@ -1,24 +1,23 @@
 -- The names of a child's faces: those at even positions are subfaces of its parent's.
-use Rattle.std.proofs.Common.{◌≡◌, ℕ, suc, ◌+◌, ◌*◌, ◌/◌, ◌%◌, ◌^◌, ◌<◌, ◌≤◌, ◌⊎◌, Bool, true, false, refl, sym, ap, ap₂, ◌∙◌, arith, inl, inr, subst}
+use Rattle.std.proofs.Common.{◌≡◌, ℕ, suc, ◌+◌, ◌*◌, ◌/◌, ◌%◌, ◌^◌, ◌<◌, ◌⊎◌, Bool, true, false, refl, sym, ap, ap₂, ◌∙◌, arith, subst}
 use Rattle.std.proofs.lemmas.Bool.Decides.{nat_tests}
 use Rattle.amr_num.specs.declared.Axis.{Axis}
 use Rattle.amr_num.specs.declared.Axis.TheVariants.{X, Y, Z}
 use Rattle.amr_num.specs.declared.BlockAt.{BlockAt}
 use Rattle.amr_num.specs.declared.CellAt.{CellAt}
-use Rattle.amr_num.specs.declared.FaceAt.{FaceAt}
 use Rattle.mesh_model.specs.declared.geometry.Shape.{Shape}
 use Rattle.mesh_model.specs.Geometry.Blocks.{InDomain, child_block}
 use Rattle.mesh_model.specs.Geometry.Canonical.{canonical_on}
-use Rattle.mesh_model.specs.Geometry.Coordinates.{Inside, after, extent, face_numbers, face_of, is_periodic, on, quarter, roots, sub_cell, sub_face, with, wrapped}
+use Rattle.mesh_model.specs.Geometry.Coordinates.{Inside, extent, face_numbers, face_of, is_periodic, on, quarter, sub_cell, sub_face, wrapped}
 use Rattle.mesh_model.specs.Geometry.Places.{in_block}
 use Rattle.mesh_model.specs.Fields.FaceSplits.{position}
 use Rattle.mesh_model.specs.Fields.Octants.{half_at}
-use Rattle.mesh_model.specs.Fields.Views.{cross, is_even}
+use Rattle.mesh_model.specs.Fields.Views.{cross}
 use Rattle.mesh_model.proofs.FieldLemmas.Beside.{three}
 use Rattle.mesh_model.proofs.FieldLemmas.Slots.{extent_double}
 use Rattle.mesh_model.proofs.FieldLemmas.Sums.{wrapped_inside}
 use Rattle.mesh_model.proofs.GeometryLemmas.Halves.{by_size, two_halves}
-use Rattle.mesh_model.proofs.GeometryLemmas.OnAxes.{with_own, with_same}
+use Rattle.mesh_model.proofs.GeometryLemmas.OnAxes.{with_same}
 
 -- ---- canonical names
 

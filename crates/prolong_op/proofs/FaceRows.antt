@@ -1,11 +1,11 @@
 -- Rows of a block's faces, and those of its parent of which they are parts.
-use Rattle.std.proofs.Common.{◌≡◌, ℕ, ◌+◌, ◌-◌, ◌*◌, ◌/◌, ◌%◌, ◌<◌, ◌≤◌, ◌⊎◌, List, ℤ, pos, refl, sym, ap, ap₂, ◌∙◌, arith, inl, inr, length, subst, slice_index_or, take, drop, [], ◌∷◌}
+use Rattle.std.proofs.Common.{◌≡◌, ℕ, ◌+◌, ◌-◌, ◌*◌, ◌/◌, ◌%◌, ◌<◌, ◌≤◌, List, ℤ, pos, sym, ap, ◌∙◌, arith, inl, inr, length, subst, take, drop, [], ◌∷◌}
 use Rattle.std.proofs.lemmas.List.{get_or-drop, get_or-take, length-drop, length-take-le}
 use Rattle.amr_num.specs.declared.Axis.{Axis}
 use Rattle.amr_num.specs.declared.Axis.TheVariants.{X, Y, Z}
 use Rattle.amr_num.specs.Numbers.{at}
 use Rattle.mesh_model.specs.Geometry.Places.{longer_on}
-use Rattle.mesh_model.specs.Fields.ArrayPlaces.{Extents, Fits, IsRowWritten, IsSize, face_extents, number_at, place_in, side, size_of}
+use Rattle.mesh_model.specs.Fields.ArrayPlaces.{Extents, Fits, IsRowWritten, IsSize, face_extents, number_at, place_in, size_of}
 use Rattle.mesh_model.specs.Fields.FaceSplits.{face_above, face_box}
 use Rattle.mesh_model.specs.Fields.Octants.{half_at}
 use Rattle.prolong_op.specs.Splitting.{four_extents}

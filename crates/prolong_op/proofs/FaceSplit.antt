@@ -1,14 +1,12 @@
 -- A child's faces are split where its parts are there and the faces between them.
-use Rattle.std.proofs.Common.{◌≡◌, ℕ, ◌+◌, ◌*◌, ◌/◌, ◌%◌, ◌^◌, ◌<◌, ◌≤◌, Bool, true, false, not, ◌&&◌, ◌||◌, ◌==◌, List, ℤ, refl, sym, ap, ap₂, ◌∙◌, arith, inl, inr, subst, ne_eqb}
+use Rattle.std.proofs.Common.{◌≡◌, ℕ, ◌+◌, ◌*◌, ◌/◌, ◌%◌, ◌^◌, Bool, true, false, not, ◌&&◌, ◌||◌, ◌==◌, List, ℤ, refl, sym, ap, ◌∙◌, arith, inl, inr, subst, ne_eqb}
 use Rattle.std.specs.Prelude.{if◌then◌else◌}
 use Rattle.std.proofs.lemmas.Bool.{cases_Bool}
 use Rattle.amr_num.specs.declared.Axis.{Axis}
-use Rattle.amr_num.specs.declared.Axis.TheVariants.{X, Y, Z}
-use Rattle.amr_num.specs.Numbers.{Within, part}
+use Rattle.amr_num.specs.Numbers.{Within}
 use Rattle.amr_num.proofs.Sizes.{part_size}
-use Rattle.mesh_model.specs.Geometry.Places.{longer_on}
 use Rattle.mesh_model.specs.Fields.ArrayPlaces.{IsSize, IsWritten, face_extents, number_at}
-use Rattle.mesh_model.specs.Fields.FaceSplits.{AreFacesSplit, SourcesAreSmall, all_faces, face_above, face_between, face_box, face_part, is_kept, is_kept_side, position, side_direction, sides_from, split_face}
+use Rattle.mesh_model.specs.Fields.FaceSplits.{AreFacesSplit, SourcesAreSmall, all_faces, face_above, face_between, face_box, face_part, is_kept, is_kept_side, position, side_direction, split_face}
 use Rattle.mesh_model.specs.Fields.Views.{cross, inner_face, is_even}
 use Rattle.prolong_op.specs.Splitting.{AreBetween, EvenAreSmall, given, part_or_old}
 use Rattle.prolong_op.proofs.Between.{odd_below, odd_inside, odd_of, sides_same, twice_half}
@@ -52,12 +50,12 @@ module _ (n g q kept : ℕ) (size : IsSize n g) where
       at = λ a i j k hi hj hk even.
           subst (Within (2 ^ 40)) (sym ((parts a).written i j k hi hj hk))
           (choose_within (2 ^ 40) (is_kept_side n kept a (position a i j k)) (is_even (position a i j k)) _ _ even
-              (λ s. small.stay a i j k hi hj hk s)
-              (λ s.
-                  let whole = face_above n g q (all_faces n g parent a) i j k in
-                  let few = small.split a i j k hi hj hk s even in
-                  let least = part_size (cross a (i % 2) (j % 2) (k % 2)) 4 whole (omega arith) in
-                  omega arith));
+          (λ s. small.stay a i j k hi hj hk s)
+          (λ s.
+          let whole = face_above n g q (all_faces n g parent a) i j k in
+          let few = small.split a i j k hi hj hk s even in
+          let least = part_size (cross a (i % 2) (j % 2) (k % 2)) 4 whole (omega arith) in
+          omega arith));
     }
 
     pub split_done : (new : Axis → List ℤ) → ((a : Axis) → AreBetween (n / 2 * (n / 2) * (n / 2)) n g a (face_between g a (all_faces n g mid)) (mid a) (new a)) →

@@ -1,5 +1,5 @@
 -- Four numbers, and what the inner rule makes of them.
-use Rattle.std.proofs.Common.{◌≡◌, ℕ, zero, suc, ◌+◌, ◌*◌, ◌^◌, ◌<◌, ◌≤◌, ℤ, pos, ◌+ℤ◌, ◌-ℤ◌, arith, refl, sym, ap, ap₂, ◌∙◌, subst, List, [], ◌∷◌, slice_index_or, w64, to_z, of_z, length, All}
+use Rattle.std.proofs.Common.{◌≡◌, ℕ, zero, suc, ◌+◌, ◌*◌, ◌^◌, ◌<◌, ℤ, pos, ◌+ℤ◌, ◌-ℤ◌, arith, refl, sym, ap, ap₂, ◌∙◌, subst, List, w64, to_z, of_z, length, All}
 use Rattle.std.proofs.lemmas.Int.{ints}
 use Rattle.std.proofs.lemmas.List.FromFn.{get_or-map-range_with_len}
 use Rattle.amr_num.specs.Numbers.{Within, at, floor_div, part, spread, spread_all, sum_below}
@@ -68,7 +68,7 @@ unfolding middle_y
 middle_y_of o i x is k h =
     spread_same 2 _ _ (λ k. floor_div (o.y_low (i + 2 * k) +ℤ o.y_high (i + 2 * k)) 2) (λ k. floor_div (o.y_low (i + 2 * k) +ℤ o.y_high (i + 2 * k)) 2)
     (ap (λ s. sum_below 2 (λ k. o.y_low (i + 2 * k)) -ℤ s -ℤ (o.z_high i -ℤ o.z_low i))
-        (sum_below_same 2 (λ k. x (2 * k)) (λ k. x_at o (suc i) (2 * k) -ℤ x_at o i (2 * k)) (λ k l. is (2 * k) (omega arith))))
+    (sum_below_same 2 (λ k. x (2 * k)) (λ k. x_at o (suc i) (2 * k) -ℤ x_at o i (2 * k)) (λ k l. is (2 * k) (omega arith))))
     (λ q l. refl) k h
 
 -- a middle z face, by what flows out of the octant below it on x and on y

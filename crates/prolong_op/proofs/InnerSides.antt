@@ -1,8 +1,7 @@
 -- The inner rule reads the 24 subfaces alone.
-use Rattle.std.proofs.Common.{◌≡◌, ℕ, zero, suc, ◌+◌, ◌*◌, ◌<◌, ℤ, ◌+ℤ◌, ◌-ℤ◌, arith, refl, sym, ap, ap₂, ◌∙◌, List}
-use Rattle.amr_num.specs.declared.Axis.{Axis}
+use Rattle.std.proofs.Common.{◌≡◌, ℕ, suc, ◌+◌, ◌*◌, ◌<◌, ℤ, ◌+ℤ◌, ◌-ℤ◌, arith, ap, ap₂, ◌∙◌, List}
 use Rattle.amr_num.specs.declared.Axis.TheVariants.{X, Y, Z}
-use Rattle.amr_num.specs.Numbers.{at, floor_div, sum_below}
+use Rattle.amr_num.specs.Numbers.{at, floor_div}
 use Rattle.amr_num.proofs.Parts.{sum_below_same}
 use Rattle.mesh_model.specs.Fields.InnerRule.{Outer, middle_x, middle_y, middle_z, x_at, y_at}
 use Rattle.mesh_model.specs.Fields.ArrayPlaces.{Box, Extents, IsWritten, place_in}
@@ -19,11 +18,11 @@ module _ (o p : Outer) (same : AreSides o p) where
   middle_x_same q h =
       spread_same 4 _ _ (λ q. floor_div (o.x_low q +ℤ o.x_high q) 2) (λ q. floor_div (p.x_low q +ℤ p.x_high q) 2)
       (minus _ _ _ _
-          (minus _ _ _ _ (sum_below_same 4 o.x_low p.x_low same.x_low)
-              (sum_below_same 2 (λ k. o.y_high (2 * k) -ℤ o.y_low (2 * k)) (λ k. p.y_high (2 * k) -ℤ p.y_low (2 * k))
-                  (λ k l. minus _ _ _ _ (same.y_high (2 * k) (omega arith)) (same.y_low (2 * k) (omega arith)))))
-          (sum_below_same 2 (λ j. o.z_high (2 * j) -ℤ o.z_low (2 * j)) (λ j. p.z_high (2 * j) -ℤ p.z_low (2 * j))
-              (λ k l. minus _ _ _ _ (same.z_high (2 * k) (omega arith)) (same.z_low (2 * k) (omega arith)))))
+      (minus _ _ _ _ (sum_below_same 4 o.x_low p.x_low same.x_low)
+      (sum_below_same 2 (λ k. o.y_high (2 * k) -ℤ o.y_low (2 * k)) (λ k. p.y_high (2 * k) -ℤ p.y_low (2 * k))
+      (λ k l. minus _ _ _ _ (same.y_high (2 * k) (omega arith)) (same.y_low (2 * k) (omega arith)))))
+      (sum_below_same 2 (λ j. o.z_high (2 * j) -ℤ o.z_low (2 * j)) (λ j. p.z_high (2 * j) -ℤ p.z_low (2 * j))
+      (λ k l. minus _ _ _ _ (same.z_high (2 * k) (omega arith)) (same.z_low (2 * k) (omega arith)))))
       (λ q l. ap₂ (λ u v. floor_div (u +ℤ v) 2) (same.x_low q l) (same.x_high q l)) q h
 
   x_out : (i : ℕ) → i < 2 → (q : ℕ) → q < 4 → x_at o (suc i) q -ℤ x_at o i q ≡ x_at p (suc i) q -ℤ x_at p i q
@@ -35,9 +34,9 @@ module _ (o p : Outer) (same : AreSides o p) where
   middle_y_same i hi k hk =
       spread_same 2 _ _ (λ k. floor_div (o.y_low (i + 2 * k) +ℤ o.y_high (i + 2 * k)) 2) (λ k. floor_div (p.y_low (i + 2 * k) +ℤ p.y_high (i + 2 * k)) 2)
       (minus _ _ _ _
-          (minus _ _ _ _ (sum_below_same 2 (λ k. o.y_low (i + 2 * k)) (λ k. p.y_low (i + 2 * k)) (λ k l. same.y_low (i + 2 * k) (omega arith)))
-              (sum_below_same 2 (λ k. x_at o (suc i) (2 * k) -ℤ x_at o i (2 * k)) (λ k. x_at p (suc i) (2 * k) -ℤ x_at p i (2 * k)) (λ k l. x_out i hi (2 * k) (omega arith))))
-          (minus _ _ _ _ (same.z_high i (omega arith)) (same.z_low i (omega arith))))
+      (minus _ _ _ _ (sum_below_same 2 (λ k. o.y_low (i + 2 * k)) (λ k. p.y_low (i + 2 * k)) (λ k l. same.y_low (i + 2 * k) (omega arith)))
+      (sum_below_same 2 (λ k. x_at o (suc i) (2 * k) -ℤ x_at o i (2 * k)) (λ k. x_at p (suc i) (2 * k) -ℤ x_at p i (2 * k)) (λ k l. x_out i hi (2 * k) (omega arith))))
+      (minus _ _ _ _ (same.z_high i (omega arith)) (same.z_low i (omega arith))))
       (λ q l. ap₂ (λ u v. floor_div (u +ℤ v) 2) (same.y_low (i + 2 * q) (omega arith)) (same.y_high (i + 2 * q) (omega arith))) k hk
 
   y_out : (i : ℕ) → i < 2 → (j : ℕ) → j < 2 → y_at o (suc j) i 0 -ℤ y_at o j i 0 ≡ y_at p (suc j) i 0 -ℤ y_at p j i 0

@@ -161,7 +161,15 @@ fn part_line(split: Split, row: Row, parent: &[i64], from: usize, old: &[i64], o
     ensures parts { (t : ℕ) → t < length out.old → at out.new t ≡ given split.n split.kept row.axis t row.j row.k (at parent.now (from + t / 2)) (at old.now t) }
 {
     for t in 0..out.len() {
-        out[t] = part_or(split, row.axis, t, row.j, row.k, parent[from + t / 2], old[t]);
+        out[t] = part_or(
+            split,
+            row.axis,
+            t,
+            row.j,
+            row.k,
+            parent[from + t / 2],
+            old[t],
+        );
     }
 }
 
@@ -236,7 +244,15 @@ fn part_faces(split: Split, axis: Axis, parent: &[i64], child: &mut [i64])
 }
 
 /// The face that is the quarter `q` of four side by side from a place on.
-fn quarter_at(axis: Axis, extents: Extents, faces: &[i64], x: usize, y: usize, z: usize, q: usize) -> i64
+fn quarter_at(
+    axis: Axis,
+    extents: Extents,
+    faces: &[i64],
+    x: usize,
+    y: usize,
+    z: usize,
+    q: usize,
+) -> i64
     requires small { (extents.x ≤ 17) × (extents.y ≤ 17) × (extents.z ≤ 17) }
     requires inside { Fits extents (four_box axis x y z) }
     requires size { length faces.now ≡ size_of extents }
@@ -308,7 +324,14 @@ fn four_extents(axis: Axis) -> Extents
 }
 
 /// Sets the `m`-th row of four faces side by side.
-fn put_row(axis: Axis, extents: Extents, corner: Corner, values: [i64; 4], faces: &mut [i64], m: usize)
+fn put_row(
+    axis: Axis,
+    extents: Extents,
+    corner: Corner,
+    values: [i64; 4],
+    faces: &mut [i64],
+    m: usize,
+)
     requires small { (extents.x ≤ 17) × (extents.y ≤ 17) × (extents.z ≤ 17) }
     requires inside { Fits extents (four_box axis corner.x corner.y corner.z) }
     requires size { length faces.old ≡ size_of extents }
@@ -353,10 +376,32 @@ fn fill_cell(n: usize, g: usize, corner: Corner, cx: &mut [i64], cy: &mut [i64],
         (λ i j k. inner_face (sides_from (all_faces n g (by_axis cx.old cy.old cz.old)) corner.x corner.y corner.z) a i j k) (by_axis cx.old cy.old cz.old a) (by_axis cx.new cy.new cz.new a) }
 {
     let Corner { x, y, z } = corner;
-    let Inner { x: on_x, y: on_y, z: on_z } = inner_faces(&sides(n, g, cx, cy, cz, corner));
-    put_four(Axis::X, Extents::of_faces(n, g, Axis::X), Corner { x: x + 1, y, z }, on_x, cx);
-    put_four(Axis::Y, Extents::of_faces(n, g, Axis::Y), Corner { x, y: y + 1, z }, on_y, cy);
-    put_four(Axis::Z, Extents::of_faces(n, g, Axis::Z), Corner { x, y, z: z + 1 }, on_z, cz);
+    let Inner {
+        x: on_x,
+        y: on_y,
+        z: on_z,
+    } = inner_faces(&sides(n, g, cx, cy, cz, corner));
+    put_four(
+        Axis::X,
+        Extents::of_faces(n, g, Axis::X),
+        Corner { x: x + 1, y, z },
+        on_x,
+        cx,
+    );
+    put_four(
+        Axis::Y,
+        Extents::of_faces(n, g, Axis::Y),
+        Corner { x, y: y + 1, z },
+        on_y,
+        cy,
+    );
+    put_four(
+        Axis::Z,
+        Extents::of_faces(n, g, Axis::Z),
+        Corner { x, y, z: z + 1 },
+        on_z,
+        cz,
+    );
 }
 
 /// Sets the faces at odd positions, cell by cell of the parent's octant.

@@ -149,7 +149,9 @@ fn middle_x_faces(outer: &Outer) -> [i64; 4]
     ensures value { (q : ℕ) → q < 4 → at result q ≡ middle_x (sides_of outer.now) q }
     ensures small { FourWithin (17 * 2 ^ 40) result }
 {
-    spread4(half_total(outer), means(outer.x_low, outer.x_high))
+    let total = half_total(outer);
+    let guides = means(outer.x_low, outer.x_high);
+    spread4(total, guides)
 }
 
 /// The total of the middle y faces of the x half `i`, where `x` is what flows out of it on x: what flows into its low y

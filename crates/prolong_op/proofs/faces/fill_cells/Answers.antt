@@ -1,11 +1,10 @@
-use Rattle.std.proofs.Common.{◌≡◌, ◌+◌, ◌*◌, ◌/◌, ◌%◌, ◌<◌, ◌^◌, ℕ, ℤ, subst, sym, inl}
+use Rattle.std.proofs.Common.{◌≡◌, ◌+◌, ◌*◌, ◌/◌, ◌%◌, ◌^◌, ℕ, ℤ, subst, sym, inl}
 use Rattle.amr_num.specs.declared.Axis.{Axis}
 use Rattle.amr_num.specs.Numbers.{Within}
 use Rattle.mesh_model.specs.Fields.ArrayPlaces.{IsWritten, face_extents}
 use Rattle.mesh_model.specs.Fields.FaceSplits.{all_faces, by_axis, sides_from}
-use Rattle.mesh_model.specs.Fields.InnerRule.{Outer}
 use Rattle.mesh_model.specs.Fields.Views.{inner_face}
-use Rattle.prolong_op.specs.Splitting.{EvenAreSmall, middle_box}
+use Rattle.prolong_op.specs.Splitting.{middle_box}
 use Rattle.prolong_op.proofs.Between.{cell_at, one_more_cell, sides_same, sides_small}
 use Rattle.prolong_op.proofs.faces.fill_cells.Goals as goal
 
@@ -34,4 +33,4 @@ loop-c-preserved c a =
     one_more_cell n g c.requires.size a first (by_axis c.args.cx.now c.args.cy.now c.args.cz.now a) (by_axis c.loop-c.cx c.loop-c.cy c.loop-c.cz a)
     (by_axis c.fill_cell.new.cx c.fill_cell.new.cy c.fill_cell.new.cz a) number c.loop-c-test.true (c.loop-c.invariant a)
     (subst (λ o. IsWritten (face_extents n g a) (middle_box a (g + 2 * x) (g + 2 * y) (g + 2 * z)) (λ i j k. inner_face o a i j k) (by_axis c.loop-c.cx c.loop-c.cy c.loop-c.cz a)
-        (by_axis c.fill_cell.new.cx c.fill_cell.new.cy c.fill_cell.new.cz a)) same (c.fill_cell.ensures a))
+    (by_axis c.fill_cell.new.cx c.fill_cell.new.cy c.fill_cell.new.cz a)) same (c.fill_cell.ensures a))

@@ -1,4 +1,4 @@
-use Rattle.std.proofs.Common.{◌≡◌, ◌+◌, ◌*◌, ◌/◌, ◌%◌, ◌<◌, ℕ, ℤ, ap, arith, rules, subst, ◌∙◌}
+use Rattle.std.proofs.Common.{◌≡◌, ◌+◌, ◌*◌, ◌/◌, ◌%◌, ◌<◌, ℕ, ℤ, ap, rules, subst}
 use Rattle.amr_num.specs.declared.Axis.TheVariants.{X, Y, Z}
 use Rattle.mesh_model.specs.Geometry.Places.{longer_on}
 use Rattle.mesh_model.specs.Fields.ArrayPlaces.{IsRowWritten, face_extents, number_at, place_in, row_of}
@@ -32,4 +32,4 @@ loop-m-preserved c =
     subst (λ w. IsRowWritten (place_in e g (g + m % w) (g + m / w)) (longer_on a X n) (λ t. part_or_old n g s.q s.kept a parent (number_at e now) t (m % w) (m / w)) now new) hy c.part_row.ensures in
     one_more_row e b fits m wanted old now new within so_far
     (row_as (row_of e b m) (longer_on a X n) (λ t. part_or_old n g s.q s.kept a parent (number_at e now) t (m % h) (m / h)) (λ t. wanted t (m % h) (m / h)) now new
-        (λ t ht. ap (given n s.kept a t (m % h) (m / h) (face_above n g s.q parent t (m % h) (m / h))) (next_row e b fits m wanted old now within so_far t ht)) row)
+    (λ t ht. ap (given n s.kept a t (m % h) (m / h) (face_above n g s.q parent t (m % h) (m / h))) (next_row e b fits m wanted old now within so_far t ht)) row)

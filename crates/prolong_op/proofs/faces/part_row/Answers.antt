@@ -1,10 +1,10 @@
-use Rattle.std.proofs.Common.{◌≡◌, ◌+◌, ◌*◌, ◌/◌, ◌%◌, ◌<◌, ◌≤◌, ◌^◌, ℕ, ℤ, [], ◌∷◌, ap, ap₂, arith, length, pos, rules, subst, sym, take, ◌∙◌}
+use Rattle.std.proofs.Common.{◌≡◌, ◌+◌, ◌/◌, ◌<◌, ◌≤◌, ℕ, ℤ, ap, ap₂, length, rules, subst, sym, ◌∙◌}
 use Rattle.amr_num.specs.declared.Axis.TheVariants.{X}
 use Rattle.amr_num.specs.Numbers.{at}
 use Rattle.mesh_model.specs.Geometry.Places.{longer_on}
 use Rattle.mesh_model.specs.Fields.ArrayPlaces.{IsRowWritten, face_extents, number_at, place_in, size_of}
 use Rattle.prolong_op.specs.Splitting.{given, part_or_old}
-use Rattle.prolong_op.proofs.FaceRows.{along_small, extents_small, from_at, from_inside, from_is, room_taken, row_as}
+use Rattle.prolong_op.proofs.FaceRows.{extents_small, from_at, from_inside, from_is, room_taken, row_as}
 use Rattle.prolong_op.proofs.faces.part_row.Goals as goal
 
 pub row-old-requires-clause-small : goal.row-old-requires-clause-small
@@ -48,4 +48,4 @@ returns c =
     (c.row-old.ensures.numbers t (subst (λ m. t < m) (sym many_is) h) ∙ ap (λ d. number_at d child (s.g + t) (s.g + line.j) (s.g + line.k)) c.of_faces-extents.ensures) in
     row_as (place_in e s.g (s.g + line.j) (s.g + line.k)) many (at out) wanted child c.write_row.new.array is
     (subst (λ m. IsRowWritten (place_in e s.g (s.g + line.j) (s.g + line.k)) m (at out) child c.write_row.new.array) long
-        (subst (λ d. IsRowWritten (place_in d s.g (s.g + line.j) (s.g + line.k)) (length out) (at out) child c.write_row.new.array) c.of_faces-extents.ensures c.write_row.ensures))
+    (subst (λ d. IsRowWritten (place_in d s.g (s.g + line.j) (s.g + line.k)) (length out) (at out) child c.write_row.new.array) c.of_faces-extents.ensures c.write_row.ensures))

@@ -1,4 +1,4 @@
-use Rattle.std.proofs.Common.{◌≡◌, ◌*◌, ◌<◌, arith, rules, subst}
+use Rattle.std.proofs.Common.{◌≡◌, ◌*◌, ◌<◌, rules, subst}
 use Rattle.amr_num.specs.Numbers.{at}
 use Rattle.mesh_model.specs.Fields.ArrayPlaces.{place_in}
 use Rattle.mesh_model.proofs.FieldLemmas.BlockPlaces.{one_more_row}

@@ -1,4 +1,4 @@
-use Rattle.std.proofs.Common.{◌≡◌, ◌+◌, ◌-◌, ◌*◌, ◌/◌, ◌%◌, ◌<◌, ◌≤◌, ℕ, ℤ, List, ap, arith, drop, length, rules, subst, sym, take, ◌∙◌}
+use Rattle.std.proofs.Common.{◌≡◌, ◌+◌, ◌-◌, ◌*◌, ◌/◌, ◌%◌, ◌<◌, ◌≤◌, ℤ, List, drop, length, rules, subst, sym, take, ◌∙◌}
 use Rattle.amr_num.specs.Numbers.{at}
 use Rattle.mesh_model.specs.Fields.ArrayPlaces.{IsRowWritten, place_in, row_of}
 use Rattle.prolong_op.specs.Splitting.{four_box, four_extents}
@@ -23,4 +23,4 @@ returns c =
     let start = row_of c.args.extents (four_box c.args.axis corner.x corner.y corner.z) m in
     row_as start f.x (at part) (λ t. at values (place_in f t (m % f.y) (m / f.y))) old new (λ t h. four_row f w values m t hx (subst (λ v. t < v) (sym hx) h))
     (subst (λ l. IsRowWritten start l (at part) old new) long
-        (subst (λ v. IsRowWritten (place_in c.args.extents corner.x (corner.y + m % v) (corner.z + m / v)) (length part) (at part) old new) hy c.write_row.ensures))
+    (subst (λ v. IsRowWritten (place_in c.args.extents corner.x (corner.y + m % v) (corner.z + m / v)) (length part) (at part) old new) hy c.write_row.ensures))

@@ -15,7 +15,7 @@ fill_cells-requires-clause-small c =
     let mid : Axis → List ℤ = by_axis c.part_faces.new.child c.part_faces-2.new.child c.part_faces-3.new.child in
     even_small s.n s.g s.q s.kept c.requires.size parent old mid
     (three (λ a. IsWritten (face_extents s.n s.g a) (face_box s.n s.g a) (part_or_old s.n s.g s.q s.kept a (number_at (face_extents s.n s.g a) (parent a)) (number_at (face_extents s.n s.g a) (old a))) (old a) (mid a))
-        c.part_faces.ensures c.part_faces-2.ensures c.part_faces-3.ensures)
+    c.part_faces.ensures c.part_faces-2.ensures c.part_faces-3.ensures)
     c.requires.small
 
 pub returns : goal.returns
@@ -27,5 +27,5 @@ returns c =
     let new : Axis → List ℤ = by_axis c.fill_cells.new.cx c.fill_cells.new.cy c.fill_cells.new.cz in
     split_done s.n s.g s.q s.kept c.requires.size parent old mid
     (three (λ a. IsWritten (face_extents s.n s.g a) (face_box s.n s.g a) (part_or_old s.n s.g s.q s.kept a (number_at (face_extents s.n s.g a) (parent a)) (number_at (face_extents s.n s.g a) (old a))) (old a) (mid a))
-        c.part_faces.ensures c.part_faces-2.ensures c.part_faces-3.ensures)
+    c.part_faces.ensures c.part_faces-2.ensures c.part_faces-3.ensures)
     new c.fill_cells.ensures

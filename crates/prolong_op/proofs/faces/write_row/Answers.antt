@@ -1,5 +1,5 @@
 use borrow.Rule.Slice.PartMut.{put_mid}
-use Rattle.std.proofs.Common.{◌≡◌, ◌+◌, ◌-◌, ◌<◌, ◌≤◌, ℕ, ap, arith, drop, length, pos, rules, subst, sym, take, refl, slice_index_or}
+use Rattle.std.proofs.Common.{◌≡◌, ◌+◌, ◌-◌, ◌≤◌, ap, arith, length, pos, rules, subst, sym, slice_index_or}
 use Rattle.amr_num.specs.Numbers.{at}
 use Rattle.mesh_model.specs.Fields.ArrayPlaces.{IsRowWritten}
 use Rattle.mesh_model.proofs.FieldLemmas.BlockPlaces.{row_inside, row_put}

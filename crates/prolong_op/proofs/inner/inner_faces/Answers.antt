@@ -1,7 +1,7 @@
-use Rattle.std.proofs.Common.{arith, ℕ, ℤ, List, [], ◌∷◌, to_z, of_z, w64, ◌<◌, ◌≡◌, ◌+◌, ◌*◌, ◌^◌, ◌∙◌, ap, ap₂, ◌-ℤ◌}
+use Rattle.std.proofs.Common.{arith, ℕ, ℤ, List, [], ◌∷◌, to_z, of_z, w64, ◌<◌, ◌≡◌, ◌+◌, ◌*◌, ◌^◌, ◌∙◌, ap, ◌-ℤ◌}
 use Rattle.amr_num.specs.Numbers.{at}
 use Rattle.amr_num.proofs.Machine.{kept}
-use Rattle.mesh_model.specs.Fields.InnerRule.{middle_y, middle_z, x_at, y_at}
+use Rattle.mesh_model.specs.Fields.InnerRule.{middle_y, middle_z, x_at}
 use Rattle.prolong_op.specs.Sides.{sides_of}
 use Rattle.prolong_op.proofs.Fours.{middle_y_of, middle_z_of, pair_cases}
 use Rattle.prolong_op.proofs.inner.inner_faces.Goals as goal

@@ -1,5 +1,5 @@
-use Rattle.std.proofs.Common.{rules, arith, ◌+◌, ◌*◌, ◌^◌}
-use Rattle.prolong_op.proofs.Fours.{four_cases, four_still}
+use Rattle.std.proofs.Common.{rules, arith, ◌*◌, ◌^◌}
+use Rattle.prolong_op.proofs.Fours.{four_cases}
 use Rattle.prolong_op.proofs.inner.middle_z_faces.Goals as goal
 
 pub left_over-requires-clause-y : goal.left_over-requires-clause-y
