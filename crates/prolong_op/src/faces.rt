@@ -24,6 +24,9 @@ use block_store::{Extents, place, row};
 /// face gets its part of the block's face in which it lies, and at an odd one what the inner rule gives of the subfaces on
 /// the sides of the block's cell in which it lies. Bit d of `kept` says that the child's side in the direction
 /// d = (dx + 1) + 3 (dy + 1) + 9 (dz + 1) has its numbers already: these stay, as the guard cells' faces do.
+///
+/// The arrays are those of blocks of `N` cells along each axis with `G` guard cells on each side. The numbers that stay,
+/// and those of the block of which others are made, are at most [`amr_num::RANGE`] in absolute value.
 pub fn split_faces<const N: usize, const G: usize>(
     octant: u32,
     kept: u32,
