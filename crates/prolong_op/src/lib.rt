@@ -2,9 +2,13 @@
 #![tactic(auto)]
 
 mod cells;
+mod faces;
+mod inner;
 pub mod laws;
 
 pub use cells::split_cells;
+pub use faces::split_faces;
+pub use inner::{Inner, Outer, inner_faces};
 
 #[cfg(test)]
 mod tests;

@@ -1,7 +1,34 @@
-//! Parts of cells that are worked by hand.
+//! Parts of cells and of faces that are worked by hand.
 
-use crate::laws::children_hold_views;
-use crate::split_cells;
+ghost use Rattle.amr_num.specs.Numbers.{Within, at};
+ghost use Rattle.std.specs.Prelude.{◌≡◌, ℕ, ◌^◌, ◌<◌, ◌≤◌, IfOk, length};
+
+use crate::laws::{children_hold_views, face_children_hold_views};
+use crate::{Outer, inner_faces, split_cells, split_faces};
+use amr_num::OutOfMemory;
+use std::alloc::Global;
+
+/// So many numbers that are all 7.
+fn sevens(alloc: Global, count: usize) -> Result<Vec<i64>, OutOfMemory>
+    ensures size { IfOk result (λ list. length list.items ≡ count) }
+    ensures few { IfOk result (λ list. (p : ℕ) → Within (2 ^ 40) (at list.items p)) }
+{
+    match vec![in alloc; 7; count] {
+        Ok(list) => Ok(list),
+        Err(_) => Err(OutOfMemory),
+    }
+}
+
+/// Sets a number.
+fn set(list: &mut [i64], place: usize, number: i64)
+    requires place { place < length list.old }
+    requires number { Within (2 ^ 40) number }
+    requires few { (p : ℕ) → Within (2 ^ 40) (at list.old p) }
+    ensures size { length list.new ≡ length list.old }
+    ensures few { (p : ℕ) → Within (2 ^ 40) (at list.new p) }
+{
+    list[place] = number;
+}
 
 #[test]
 fn one_cell_makes_eight(rt: HostRuntime) {
@@ -21,4 +48,63 @@ fn one_cell_makes_eight(rt: HostRuntime) {
     assert_eq!(rt; child[3 + 6 + 36], 0);
     assert_eq!(rt; child[6 + 36], 7);
     children_hold_views();
+}
+
+#[test]
+fn octants_balance(rt: HostRuntime) {
+    let inner = inner_faces(&Outer {
+        x_low: [3, 1, 0, 1],
+        x_high: [1, 0, 0, 0],
+        y_low: [0, 0, 0, 0],
+        y_high: [1, 0, 0, 2],
+        z_low: [0, 0, 0, 0],
+        z_high: [0, 1, 0, 0],
+    });
+    assert_eq!(rt; inner.x, [3, 1, 0, 0]);
+    assert_eq!(rt; inner.y, [0, 0, 0, 1]);
+    assert_eq!(rt; inner.z, [0, 2, -1, 1]);
+}
+
+#[test]
+fn a_cell_is_split_between_its_sides(rt: HostRuntime) {
+    // A row on x has 7 places, and those of y and z 6. A plane on y has 7 rows, and those of x and z 6.
+    let mut px = sevens(rt.alloc(), 252).expect(&rt, "memory");
+    let mut py = sevens(rt.alloc(), 252).expect(&rt, "memory");
+    let mut pz = sevens(rt.alloc(), 252).expect(&rt, "memory");
+    let mut cx = sevens(rt.alloc(), 252).expect(&rt, "memory");
+    let mut cy = sevens(rt.alloc(), 252).expect(&rt, "memory");
+    let mut cz = sevens(rt.alloc(), 252).expect(&rt, "memory");
+    // Of the parent's cell (0, 0, 0) 1 flows out on x, 3 on y and 1 on z, and 5 flow in through the low x side, which is
+    // the child's and is kept.
+    set(&mut px, 2 + 7 + 42, 1);
+    set(&mut py, 1 + 6 + 42, 0);
+    set(&mut py, 1 + 12 + 42, 3);
+    set(&mut pz, 1 + 6 + 36, 0);
+    set(&mut pz, 1 + 6 + 72, 1);
+    set(&mut cx, 1 + 7 + 42, 3);
+    set(&mut cx, 1 + 14 + 42, 1);
+    set(&mut cx, 1 + 7 + 84, 0);
+    set(&mut cx, 1 + 14 + 84, 1);
+    split_faces::<4, 1>(0, 4096, &px, &py, &pz, &mut cx, &mut cy, &mut cz);
+    assert_eq!(rt; cx[1 + 7 + 42], 3);
+    assert_eq!(rt; cx[1 + 28 + 168], 7);
+    assert_eq!(rt; cx[2 + 7 + 42], 2);
+    assert_eq!(rt; cx[2 + 14 + 42], 0);
+    assert_eq!(rt; cx[2 + 7 + 84], 0);
+    assert_eq!(rt; cx[3 + 7 + 42], 1);
+    assert_eq!(rt; cx[3 + 14 + 42], 0);
+    // The high x side is not kept: the parent's face there has 7, of which the last quarter is 1.
+    assert_eq!(rt; cx[5 + 7 + 42], 2);
+    assert_eq!(rt; cx[5 + 14 + 84], 1);
+    assert_eq!(rt; cx[7 + 42], 7);
+    assert_eq!(rt; cy[1 + 12 + 42], 0);
+    assert_eq!(rt; cy[2 + 12 + 42], 1);
+    assert_eq!(rt; cy[1 + 12 + 84], 0);
+    assert_eq!(rt; cy[1 + 18 + 84], 1);
+    assert_eq!(rt; cy[2 + 18 + 84], 0);
+    assert_eq!(rt; cz[1 + 6 + 72], 1);
+    assert_eq!(rt; cz[2 + 6 + 72], 0);
+    assert_eq!(rt; cz[1 + 12 + 72], 0);
+    assert_eq!(rt; cz[1 + 6 + 108], 1);
+    face_children_hold_views();
 }
