@@ -29,7 +29,7 @@ use Rattle.flux_conserve.specs.Work.{IsJumpNode, work_array}
 use Rattle.guard_fill.specs.Filling.{HoldsSides, LeavesSided}
 use Rattle.regrid_move.proofs.Excess.{found_filtered}
 use Rattle.amr_engine.specs.Flowing.{IsReady}
-use Rattle.amr_engine.specs.Settling.{AreFluxed, HoldsContents, IsRefused, IsSettled, MaySettle, OnlyWorkCells, WorkCellsHold, WorkNodeHolds, above_below, lost, node_above, work_cells}
+use Rattle.amr_engine.specs.Settling.{AreCellsOf, AreFluxed, HoldsContents, IsRefused, IsSettled, MaySettle, OnlyWorkCells, WorkCellsHold, WorkNodeHolds, above_below, lost, node_above, work_cells}
 use Rattle.amr_engine.specs.Totals.{node_sum}
 use Rattle.amr_engine.specs.declared.hindrance.Above.{Above}
 use Rattle.amr_engine.proofs.Summed.{node_sums}
@@ -45,20 +45,21 @@ views_of_contents g content b numbers valid leaf holds = record {
 
 -- the leaves below a node took over their work cells
 pub record AreTakenBelow (m : ℕ) (old new : WorldState) (v : ℕ) : Type 0 where
-  pub done : (k : ℕ) → k < m → IsLeafNode old.told.grid k → cell_array new v k ≡ work_cells old k
+  pub done : (k : ℕ) → k < m → IsLeafNode old.told.grid k → AreCellsOf old.told.grid.shape.n old.told.grid.shape.g (cell_array new v k) (work_cells old k)
 
 pub none_taken : (w : WorldState) (v : ℕ) → AreTakenBelow 0 w w v
 none_taken w v = record { done = λ k h leaf. absurd (omega arith) }
 
 module _ (m : ℕ) (old now new : WorldState) (v : ℕ) (is : AreTakenBelow m old now v) (before : OnlyCells old now v) where
   -- a leaf does
-  pub leaf_taken : OnlyOf now new 0 (Cell v) m → cell_array new v m ≡ work_cells now m → AreTakenBelow (m + 1) old new v
+  pub leaf_taken : OnlyOf now new 0 (Cell v) m → AreCellsOf old.told.grid.shape.n old.told.grid.shape.g (cell_array new v m) (work_cells now m) → AreTakenBelow (m + 1) old new v
   leaf_taken only taken = record {
     done = λ k h there. elim (cases_lt k m) [
-      | inl less ↦ only.here.others (Cell v) k (λ u e. omega arith) ∙ is.done k less there
+      | inl less ↦ subst (λ xs. AreCellsOf old.told.grid.shape.n old.told.grid.shape.g xs (work_cells old k)) (sym (only.here.others (Cell v) k (λ u e. omega arith))) (is.done k less there)
       | inr more ↦ (
           let last : k ≡ m = omega arith in
-          subst (λ p. cell_array new v p ≡ work_cells old p) (sym last) (taken ∙ before.others CellWork m (λ e. cc)))
+          subst (λ p. AreCellsOf old.told.grid.shape.n old.told.grid.shape.g (cell_array new v p) (work_cells old p)) (sym last)
+          (subst (AreCellsOf old.told.grid.shape.n old.told.grid.shape.g (cell_array new v m)) (before.others CellWork m (λ e. cc)) taken))
     ];
   }
 
@@ -83,7 +84,7 @@ all_taken m old new v valid only is all content holds k leaf =
     let b = block_at grid k in
     let here : HoldsViews grid content b (cells_of grid (work_cells old k)) = views_of_contents grid content b (cells_of grid (work_cells old k)) valid there.leaf (holds k there) in
     subst (λ (t : Told). HoldsViews t.grid content (block_at t.grid k) (cells_of t.grid (cell_array new v k))) (sym only.told)
-    (subst (λ xs. HoldsViews grid content b (cells_of grid xs)) (sym (is.done k (all k there) there)) here)
+    (record { at = λ i j l hi hj hl. (is.done k (all k there) there).at i j l hi hj hl ∙ here.at i j l hi hj hl })
 
 -- ---- worlds whose work cells are written
 

@@ -7,6 +7,7 @@ use Rattle.amr_num.specs.declared.CellAt.{CellAt}
 use Rattle.mesh_model.specs.declared.fields.values.Var.{Var}
 use Rattle.mesh_model.specs.declared.fields.values.Var.TheVariants.{CellWork}
 use Rattle.mesh_model.specs.Fields.Advect.{Speeds, advected, flux, on_outer}
+use Rattle.mesh_model.specs.Fields.ArrayPlaces.{cell_extents, number_at}
 use Rattle.mesh_model.specs.Fields.Arrays.{array_in}
 use Rattle.mesh_model.specs.Fields.Circulation.{net_flux}
 use Rattle.mesh_model.specs.Fields.Firsts.{first_below}
@@ -27,6 +28,10 @@ use Rattle.amr_engine.specs.declared.hindrance.Above.{Above}
 -- the array of a node's work cells
 abbrev pub work_cells : WorldState → ℕ → List ℤ
 work_cells w node = array_in (rank_at w 0).own.values CellWork node
+
+-- an array has another's numbers on a block's cells
+pub record AreCellsOf (n g : ℕ) (xs ys : List ℤ) : Type 0 where
+  pub at : (i j k : ℕ) → i < n → j < n → k < n → number_at (cell_extents n g) xs (g + i) (g + j) (g + k) ≡ number_at (cell_extents n g) ys (g + i) (g + j) (g + k)
 
 -- numbers by places are the contents of a block's cells
 pub record HoldsContents (g : Grid) (content : CellAt → ℤ) (b : BlockAt) (numbers : ℕ → ℕ → ℕ → ℤ) : Type 0 where

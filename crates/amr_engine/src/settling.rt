@@ -5,7 +5,7 @@ ghost use Rattle.amr_num.specs.declared.Axis.TheVariants.{X, Y, Z};
 ghost use Rattle.amr_num.specs.declared.CellAt.{CellAt as Cells};
 ghost use Rattle.amr_engine.specs.Blocks.{IsSmallBlock};
 ghost use Rattle.amr_engine.specs.Flowing.{AreGuarded, IsReady};
-ghost use Rattle.amr_engine.specs.Settling.{AreFluxed, AreStepFaces, IsLost, IsRefused, IsSettled, IsStepped, MaySettle, OnlyWorkCells, WorkCellsHold, flows_at, node_above, work_cells};
+ghost use Rattle.amr_engine.specs.Settling.{AreCellsOf, AreFluxed, AreStepFaces, IsLost, IsRefused, IsSettled, IsStepped, MaySettle, OnlyWorkCells, WorkCellsHold, flows_at, node_above, work_cells};
 ghost use Rattle.block_tree.specs.GridOf.{grid_of};
 ghost use Rattle.block_tree.specs.Numbered.{IsNode, block_at};
 ghost use Rattle.flux_conserve.specs.Jumps as jumps_at;
@@ -35,7 +35,7 @@ use flux_conserve::is_at_jump;
 use mesh_model::geometry::axes::{block_on, is_periodic, roots};
 use mesh_model::{Shape, Var};
 use rank_world::World;
-use step_advect::{RangeAt, apply};
+use step_advect::{RangeAt, apply, take_cells};
 
 /// The most faces normal to an axis that a block's array has: those of 8 cells with 4 guard cells on each side.
 const MOST_FACES: usize = 17 * 16 * 16;
@@ -392,12 +392,12 @@ pub fn settle<const N: usize, const G: usize>(
     )
 }
 
-/// Copies a leaf's work cells over its cells of a variable.
+/// Copies a leaf's work cells over its cells of a variable. Its guard cells are as before.
 fn take_leaf<const N: usize, const G: usize>(world: &mut World<N, G>, v: u32, node: u32)
     requires leaf { IsLeafArray N G world.old v node }
     ensures only { OnlyOf world.old world.new 0 (Cell v) node }
     ensures fit { IsFit N G world.new }
-    ensures taken { cell_array world.new v node ≡ work_cells world.old node }
+    ensures taken { AreCellsOf N G (cell_array world.new v node) (work_cells world.old node) }
 {
     let _shape = world.tree().shape();
     let Beside {
@@ -407,7 +407,7 @@ fn take_leaf<const N: usize, const G: usize>(world: &mut World<N, G>, v: u32, no
         d: _,
         out,
     } = world.beside(node, [Var::CellWork; 4], Var::Cell(v));
-    out.copy_from_slice(a);
+    take_cells::<N, G>(a, out);
 }
 
 /// Copies each leaf's work cells over its cells of a variable.

@@ -185,7 +185,7 @@ fn carry_small(amount: u64, value: i64) -> i64
     ensures value { result ≡ floor_div (pos amount *ℤ value) (2 ^ 20) }
     ensures small { Within (2 ^ 56) result }
 {
-    (amount as i64 * value).div_euclid(1 << 20)
+    (amount as i64 * value) >> 20
 }
 
 /// `amount` units of 2^-20 of a greater `value`, rounded down.

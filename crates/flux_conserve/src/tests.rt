@@ -7,8 +7,8 @@ ghost use Rattle.mesh_model.specs.Fields.Ranks.{IsFit};
 ghost use Rattle.mesh_model.specs.Geometry.Limits.{IsShape};
 ghost use Rattle.std.specs.Prelude.{◌≡◌, ◌≤◌, ◌^◌, IfSome};
 
-use crate::correct;
 use crate::laws::fluxes_are_jumped;
+use crate::{correct, has_jump, is_at_jump};
 use amr_num::{Axis, SideKind};
 use block_store::Layout;
 use block_tree::Tree;
@@ -143,4 +143,23 @@ fn coarse_faces_take_the_sums_of_finer_ones(rt: HostRuntime) {
         }
     }
     fluxes_are_jumped();
+}
+
+/// Whether the leaf of a node is at a jump of level.
+fn at_jump(world: &World<4, 1>, node: u32) -> bool {
+    let tree = world.tree();
+    node < tree.len() && is_at_jump(tree, tree.at(node))
+}
+
+/// The octants beside the other root are at a jump, and on a periodic axis those at the far side too.
+#[test]
+fn leaves_are_at_jumps(rt: HostRuntime) {
+    for kind in [SideKind::Outflow, SideKind::Periodic] {
+        let mesh = refined_world(rt.alloc(), kind).expect(&rt, "memory");
+        let wraps = kind == SideKind::Periodic;
+        assert!(rt; has_jump(mesh.tree()));
+        for (node, jumps) in [(9, true), (2, true), (8, true), (1, wraps), (7, wraps)] {
+            assert_eq!(rt; at_jump(&mesh, node), jumps);
+        }
+    }
 }

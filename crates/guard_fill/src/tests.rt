@@ -5,7 +5,7 @@ ghost use Rattle.mesh_model.specs.Geometry.Limits.{IsShape};
 ghost use Rattle.std.specs.Prelude.{◌<◌, ◌≤◌, IfSome};
 
 use crate::laws::near_views_are_small;
-use crate::{fill, restrict_all};
+use crate::{fill, fill_sides, restrict_all};
 use amr_num::{BlockAt, SideKind};
 use block_store::Layout;
 use block_tree::{Marks, Tree};
@@ -106,6 +106,16 @@ fn settle(world: &mut World<4, 1>)
     fill(world, Group::Cell(0));
 }
 
+/// The same, but fills the guard cells straight across sides alone.
+fn settle_sides(world: &mut World<4, 1>)
+    requires { IsTrial world.old }
+    ensures { IsTrial world.new }
+{
+    let _tree = world.tree();
+    restrict_all(world, Group::Cell(0));
+    fill_sides(world, 0);
+}
+
 fn block(level: u32, x: u32, y: u32, z: u32) -> BlockAt {
     BlockAt { level, x, y, z }
 }
@@ -195,5 +205,34 @@ fn guards_lie_in_finer_and_in_coarser_blocks(rt: HostRuntime) -> Result<(), Fail
         assert_eq!(rt; number(&world, at, place), Some(value));
     }
     near_views_are_small();
+    Ok(())
+}
+
+#[test]
+fn edges_and_corners_are_no_sides(rt: HostRuntime) -> Result<(), Fail> {
+    let roots = Tree::roots(rt.alloc(), shape(1, [SideKind::Periodic; 3]))?;
+    let mut world = world_of(rt.alloc(), roots).ok_or("no world")?;
+    let root = block(0, 0, 0, 0);
+    let numbers = [
+        (root, [4, 2, 3], 11),
+        (root, [4, 4, 4], 13),
+        (root, [4, 1, 2], 14),
+        (root, [2, 3, 4], 15),
+    ];
+    assert!(rt; put_all(&mut world, &numbers));
+    settle_sides(&mut world);
+    for (place, value) in [
+        ([0, 2, 3], 11),
+        ([0, 4, 4], 13),
+        ([4, 0, 4], 13),
+        ([4, 4, 0], 13),
+        ([2, 3, 0], 15),
+        ([4, 2, 3], 11),
+        ([0, 0, 4], 0),
+        ([0, 0, 0], 0),
+        ([0, 5, 2], 0),
+    ] {
+        assert_eq!(rt; number(&world, root, place), Some(value));
+    }
     Ok(())
 }

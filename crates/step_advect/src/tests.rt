@@ -8,7 +8,7 @@ ghost use Rattle.step_advect.specs.Applied.{AreInRange, inner};
 ghost use Rattle.step_advect.specs.Fluxed.{AreFacesWithin, AreSidesWithin};
 
 use crate::laws::{block_fluxes_are_of_leaves, block_steps_are_advects};
-use crate::{RangeAt, apply, face_fluxes, flux, settled};
+use crate::{RangeAt, apply, face_fluxes, flux, settled, take_cells};
 use amr_num::{Axis, OutOfMemory};
 use block_store::Cells;
 use std::alloc::Global;
@@ -103,40 +103,46 @@ fn flux_there(alloc: Global, case: FluxCase) -> Result<i64, OutOfMemory>
     Ok(out[case.face])
 }
 
+/// The cell (1, 1, 1) is at the place (2, 2, 2), which is 2 + 6 * (2 + 6 * 2), and its faces on x are at the places 2 and 3
+/// of lines of 7. On y its high face is at the place (2, 3, 2) of lines of 6 and planes of 42, and on z at (2, 2, 3) of
+/// planes of 36. The place 0 is none of the block's faces.
 #[test]
 fn blocks_have_their_fluxes(rt: HostRuntime) {
     let alloc = rt.alloc();
-    let half = 524288;
-    // The cell (1, 1, 1) is at the place (2, 2, 2), which is 2 + 6 * (2 + 6 * 2), and its faces on x are at the places
-    // 2 and 3 of lines of 7. On y its high face is at the place (2, 3, 2) of lines of 6 and planes of 42, and on z at
-    // (2, 2, 3) of planes of 36. The place 0 is none of the block's faces.
-    for (axis, level, speed, content, face, want) in [
-        (Axis::X, 0u32, half, 5i64, 100usize, 0i64),
-        (Axis::X, 0, half, 5, 101, 2),
-        (Axis::X, 0, -half, 5, 100, -2),
-        (Axis::X, 0, -half, 5, 101, 0),
-        (Axis::X, 0, half, -5, 101, -3),
-        (Axis::X, 1, half, 5, 101, 5),
-        (Axis::X, 0, half, 5, 0, 7),
-        (Axis::Y, 0, half, 5, 104, 2),
-        (Axis::Z, 0, half, 5, 122, 2),
+    let case = FluxCase {
+        cell: 86,
+        content: 5,
+        axis: Axis::X,
+        level: 0,
+        speed: 524288,
+        closed_low: true,
+        closed_high: true,
+        face: 101,
+    };
+    for (axis, speed, content, face, want) in [
+        (Axis::X, 524288i64, 5i64, 100usize, 0i64),
+        (Axis::X, 524288, 5, 101, 2),
+        (Axis::X, -524288, 5, 100, -2),
+        (Axis::X, -524288, 5, 101, 0),
+        (Axis::X, 524288, -5, 101, -3),
+        (Axis::X, 524288, 5, 0, 7),
+        (Axis::Y, 524288, 5, 104, 2),
+        (Axis::Z, 524288, 5, 122, 2),
     ] {
-        let case = FluxCase {
-            cell: 86,
-            content,
+        let there = FluxCase {
             axis,
-            level,
             speed,
-            closed_low: true,
-            closed_high: true,
+            content,
             face,
+            ..case
         };
         assert_eq!(rt;
-            flux_there(alloc, case),
+            flux_there(alloc, there),
             Ok(want),
             "{face} {speed} {content}"
         );
     }
+    assert_eq!(rt; flux_there(alloc, FluxCase { level: 1, ..case }), Ok(5));
     block_fluxes_are_of_leaves();
 }
 
@@ -289,5 +295,24 @@ fn contents_out_of_range_are_refused(rt: HostRuntime) {
     match step_there(alloc, StepCase { flux: 1, ..kept }) {
         Ok((flown, _)) => assert_eq!(rt; flown, Err(refused)),
         Err(OutOfMemory) => assert!(rt; false),
+    }
+}
+
+/// What a place has after a block's cells were taken from an array that has 5 there, where each place had 7 before.
+fn taken_there(alloc: Global, place: usize) -> Result<i64, OutOfMemory>
+    requires { place < 216 }
+{
+    let from = numbers_with(alloc, 216, place, 5)?;
+    let mut out = [7i64; 216];
+    take_cells::<4, 1>(&from, &mut out);
+    Ok(out[place])
+}
+
+#[test]
+fn cells_are_taken_without_guards(rt: HostRuntime) {
+    let alloc = rt.alloc();
+    // The places (1, 1, 1), (2, 2, 2) and (4, 4, 4) are cells, and (0, 0, 0), (0, 2, 2) and (5, 2, 2) are guard cells.
+    for (place, wanted) in [(43usize, 5i64), (86, 5), (172, 5), (0, 7), (84, 7), (89, 7)] {
+        assert_eq!(rt; taken_there(alloc, place), Ok(wanted), "{place}");
     }
 }

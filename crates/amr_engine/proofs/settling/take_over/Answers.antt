@@ -5,9 +5,11 @@ use Rattle.mesh_model.specs.Fields.Ranks.{IsFit}
 use Rattle.mesh_model.specs.Tree.Kinds.{Grid, is_leaf_block}
 use Rattle.mesh_model.specs.Tree.Order.{nodes}
 use Rattle.mesh_model.specs.Tree.ValidGrid.{Valid}
-use Rattle.rank_world.specs.Holding.{OnlyCells}
+use Rattle.rank_world.specs.Holding.{OnlyCells, cell_array}
 use Rattle.amr_engine.proofs.Filled.{cells_again}
 use Rattle.amr_engine.proofs.Settled.{AreTakenBelow, all_taken, leaf_taken, node_not_taken}
+use Rattle.amr_engine.proofs.Stepped.{in_shape}
+use Rattle.amr_engine.specs.Settling.{AreCellsOf, work_cells}
 use Rattle.amr_engine.proofs.settling.take_over.Goals as goal
 use Rattle.amr_engine.proofs.settling.take_over.Goals.{then-is_leaf, else-is_leaf}
 
@@ -26,7 +28,8 @@ loop-node-preserved g c =
           record {
             only = subst (λ x. OnlyCells old x v) (sym w.world-is) (cells_again old now w.take_leaf.new.world v node before.only done.only);
             fit = subst (IsFit g.row.N g.row.G) (sym w.world-is) done.fit;
-            taken = subst (λ x. AreTakenBelow (node + 1) old x v) (sym w.world-is) (leaf_taken node old now w.take_leaf.new.world v before.taken before.only done.only done.taken);
+            taken = subst (λ x. AreTakenBelow (node + 1) old x v) (sym w.world-is) (leaf_taken node old now w.take_leaf.new.world v before.taken before.only done.only
+                (in_shape (λ m d. AreCellsOf m d (cell_array w.take_leaf.new.world v node) (work_cells now node)) g.row.N g.row.G old.told.grid.shape c.requires.fit.sizes done.taken));
           }
       | else-is_leaf w ↦
           let inner = kind ∙ sym c.is_leaf.ensures ∙ w.if-is_leaf.false in
