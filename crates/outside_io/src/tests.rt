@@ -51,7 +51,7 @@ fn writes_a_few_bytes_at_a_time(rt: HostRuntime) -> Result<(), Fail> {
 fn keeps_two_areas(rt: HostRuntime) -> Result<(), Fail> {
     let a = [10, 20, 30].to_vec(rt.alloc())?;
     let b = [7].to_vec(rt.alloc())?;
-    let mut disk = MemDisk::new(rt.alloc(), a, b, 7, [2].to_vec(rt.alloc())?)?;
+    let mut disk = MemDisk::new(rt.alloc(), a, b, 7, [2].to_vec(rt.alloc())?, None)?;
     assert_eq!(rt; disk.length(Area::A), Ok(3));
     assert_eq!(rt; disk.sync(Area::A), Err(Failed), "the second call fails");
     assert_eq!(rt; disk.write_at(Area::A, 2, &[31, 40]), Ok(()));
