@@ -1,0 +1,5 @@
+pub mod Body
+pub mod Gates
+pub mod Newer
+pub mod Running
+pub mod Saved
