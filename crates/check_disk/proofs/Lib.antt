@@ -1,5 +1,7 @@
 pub mod Body
 pub mod Gates
+pub mod Goods
 pub mod Newer
+pub mod RunStages
 pub mod Running
 pub mod Saved

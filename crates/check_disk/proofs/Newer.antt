@@ -1,12 +1,12 @@
 -- What areas hold when the one that is next is closed, and when it is opened.
-use Rattle.std.proofs.Common.{◌≡◌, ℕ, ◌+◌, ◌%◌, ◌≤◌, Bool, true, false, ◌==◌, cond, List, ◌∷◌, length, get_or, Result, Ok, Err, refl, sym, ap, ◌∙◌, arith}
+use Rattle.std.proofs.Common.{◌≡◌, ℕ, ◌+◌, ◌%◌, Bool, true, false, ◌==◌, cond, List, Result, Ok, Err, refl, sym, ap, ◌∙◌, arith}
 use Rattle.std.proofs.lemmas.Bool.{eq-eqb, ne_eqb}
 use Rattle.outside_io.specs.declared.disk.Area.{Area}
 use Rattle.outside_io.specs.declared.disk.Area.TheVariants.{A, B}
 use Rattle.outside_io.specs.Areas.{Areas, bytes_of, other_area}
 use Rattle.check_disk.specs.declared.target.Target.{Target}
 use Rattle.check_disk.specs.Format.{Format}
-use Rattle.check_disk.specs.Held.{is_open, turn_in, b_is_newer, mesh_in, Held, Nothing, Damaged, Found, held_by, held, IsWhole, next_by, next_of}
+use Rattle.check_disk.specs.Held.{is_open, turn_in, b_is_newer, mesh_in, Found, held_by, held, IsWhole, next_by, next_of}
 
 not_a : {turn turn' : ℕ} → ◌≡◌ {A = Target} (record { area = A; turn = turn }) (record { area = B; turn = turn' }) → ⊥
 not_a next = cc (ap (λ (n : Target). n.area) next)

@@ -1,5 +1,5 @@
 -- What a checkpoint's steps make of what is held.
-use Rattle.std.proofs.Common.{◌≡◌, ◌⊎◌, inl, inr, ℕ, ◌≤◌, ◌∷◌, drop, Option, Ok, ap, subst, ◌∙◌}
+use Rattle.std.proofs.Common.{◌≡◌, ◌⊎◌, inl, inr, ℕ, ◌≤◌, Option, ap, subst, ◌∙◌}
 use Rattle.outside_io.specs.Areas.{Areas}
 use Rattle.outside_io.specs.Crash.{LeavesOnly, Reads, Rests}
 use Rattle.outside_io.proofs.Moments.{weaker, joined, still_rests}

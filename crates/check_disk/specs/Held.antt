@@ -1,5 +1,5 @@
 -- What a disk's two areas hold.
-use Rattle.std.specs.Prelude.{◌≡◌, ◌≢◌, ◌⊎◌, ℕ, ◌+◌, ◌%◌, Bool, true, false, ◌&&◌, ◌==◌, nat_le, cond, List, length, drop, get_or, Result, Ok, Err}
+use Rattle.std.specs.Prelude.{◌≡◌, ◌⊎◌, ℕ, ◌+◌, ◌%◌, Bool, true, false, ◌&&◌, ◌==◌, nat_le, cond, List, length, drop, get_or, Result, Ok, Err}
 use Rattle.outside_io.specs.declared.disk.Area.{Area}
 use Rattle.outside_io.specs.declared.disk.Area.TheVariants.{A, B}
 use Rattle.outside_io.specs.Areas.{Areas}

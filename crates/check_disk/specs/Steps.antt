@@ -1,5 +1,5 @@
 -- What stands in the areas at each step of a checkpoint, and what a crash leaves there meanwhile.
-use Rattle.std.specs.Prelude.{◌≡◌, ◌≢◌, ◌⊎◌, ℕ, ◌≤◌, false, List, ◌∷◌, length, take, get_or}
+use Rattle.std.specs.Prelude.{◌≡◌, ◌≢◌, ℕ, ◌≤◌, false, List, ◌∷◌, length, take, get_or}
 use Rattle.outside_io.specs.declared.disk.Area.{Area}
 use Rattle.outside_io.specs.Areas.{Areas, bytes_of, other_area}
 use Rattle.check_disk.specs.declared.target.Target.{Target}

@@ -1,6 +1,5 @@
-use Rattle.std.proofs.Common.{◌≡◌, ◌⊎◌, inl, inr, ℕ, ◌+◌, ◌≤◌, Some, ◌++◌, length, take, drop, IfSome, arith, ◌∙◌, ap, sym, subst}
-use Rattle.outside_io.specs.Areas.{Areas, bytes_of, with_bytes, overwritten}
-use Rattle.outside_io.specs.Crash.{Torn, InArea, LeavesOnly}
+use Rattle.std.proofs.Common.{◌≡◌, inr, ◌≤◌, Some, ◌++◌, length, take, drop, IfSome, arith, ◌∙◌, ap, sym, subst}
+use Rattle.outside_io.specs.Areas.{Areas, bytes_of, with_bytes}
 use Rattle.outside_io.proofs.Moments.{goes_on}
 use Rattle.check_disk.specs.Steps.{KeepsGate}
 use Rattle.check_disk.proofs.Gates.{keeps_torn}

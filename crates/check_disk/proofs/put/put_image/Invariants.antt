@@ -1,4 +1,4 @@
-use Rattle.std.proofs.Common.{◌≡◌, ◌⊎◌, ℕ, ◌+◌, ◌-◌, ◌≤◌, Some, is_some, ◌++◌, length, take, IfSome}
+use Rattle.std.proofs.Common.{◌≡◌, ◌⊎◌, ◌+◌, ◌-◌, ◌≤◌, Some, is_some, ◌++◌, length, take, IfSome}
 use Rattle.outside_io.specs.Areas.{Areas, bytes_of, with_bytes}
 use Rattle.outside_io.specs.Crash.{LeavesOnly}
 use Rattle.check_disk.specs.Steps.{KeepsGate}

@@ -1,4 +1,4 @@
-use Rattle.std.proofs.Common.{◌≡◌, ◌⊎◌, ap, subst, sym, ◌∙◌}
+use Rattle.std.proofs.Common.{◌≡◌, ◌⊎◌, subst, sym}
 use Rattle.outside_io.specs.Crash.{LeavesOnly}
 use Rattle.outside_io.proofs.Moments.{still_rests}
 use Rattle.outside_io.proofs.Places.{told}

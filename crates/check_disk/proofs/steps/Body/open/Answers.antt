@@ -1,5 +1,4 @@
 use Rattle.std.proofs.Common.{◌⊎◌}
-use Rattle.outside_io.specs.Areas.{Areas}
 use Rattle.outside_io.specs.Crash.{Torn, InArea}
 use Rattle.outside_io.proofs.Moments.{weaker}
 use Rattle.check_disk.specs.Steps.{IsBehind, IsOpened}

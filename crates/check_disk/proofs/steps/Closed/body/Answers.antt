@@ -1,5 +1,5 @@
 use Rattle.std.proofs.Common.{◌≡◌, ◌++◌, Some, is_some, take, ap, ◌∙◌}
-use Rattle.outside_io.specs.Areas.{Areas, bytes_of, with_bytes}
+use Rattle.outside_io.specs.Areas.{bytes_of, with_bytes}
 use Rattle.outside_io.proofs.Places.{told, here, twice}
 use Rattle.check_disk.specs.Steps.{IsReady}
 use Rattle.check_disk.proofs.Gates.{after_cut, writes, written_reads, synced}
