@@ -4,9 +4,12 @@
 #![tactic(auto)]
 
 pub mod laws;
+pub mod list_pieces;
 pub mod look;
 pub mod pieces;
 pub mod put;
 pub mod save;
 pub mod steps;
 pub mod target;
+#[cfg(test)]
+mod tests;

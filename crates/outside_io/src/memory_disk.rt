@@ -4,7 +4,7 @@ ghost use Rattle.outside_io.specs.Crash.{Torn, Shortened, InArea, Follows, OnlyI
 ghost use Rattle.outside_io.specs.Log.{Wrote, CutTo, Synced, Leaves, LeftSince, IsSound, after_all, begun};
 ghost use Rattle.outside_io.specs.Memory.{disk_fails, disk_write_fails, past_fuse, after_disk_call, after_failed_disk_call, after_disk_change};
 ghost use Rattle.outside_io.specs.Moved.{Rose};
-ghost use Rattle.outside_io.specs.Since.{now_counts, now_only};
+ghost use Rattle.outside_io.specs.LogLaws.{now_counts, now_only};
 ghost use Rattle.std.proofs.Common.{inl};
 ghost use Rattle.std.specs.Prelude.{◌≡◌, ◌⊎◌, ℕ, ◌+◌, ◌-◌, ◌<◌, ◌≤◌, refl, Some, None, [], length, take, drop, min, is_err, IfOk, IfSome, OnOk, OnErr, IsOk};
 
