@@ -88,7 +88,7 @@ fn a_crash_at_any_call_leaves_the_older_or_the_newer(rt: HostRuntime) -> Result<
             }
             let found = found_in(&disk.crash());
             if found != after(saved) {
-                assert_eq!(rt; found, after(saved + 1));
+                assert_eq!(rt; found, after(saved.saturating_add(1)));
                 newer += 1;
             }
             whole += u32::from(saved == 4);
@@ -110,7 +110,10 @@ fn a_call_that_fails_leaves_the_older_or_the_newer(rt: HostRuntime) -> Result<()
         let saved = save_four(&mut disk);
         let mut again = disk.crash();
         let found = found_in(&again);
-        assert_eq!(rt; found == after(saved) || found == after(saved + 1), true);
+        assert_eq!(rt;
+            found == after(saved) || found == after(saved.saturating_add(1)),
+            true
+        );
         let mesh = [9; LENGTH];
         assert_eq!(rt;
             save(&mut again, &mut ListPieces::new(&mesh), &mut [0; 64]),
@@ -152,11 +155,11 @@ fn the_steps_write_a_closed_gate_the_image_and_an_open_gate(rt: HostRuntime) -> 
 }
 
 /// An area with this gate and this turn byte.
-fn area_of(alloc: Global, gate: u8, turn: u8) -> Result<Vec<u8>, Fail> {
-    let mut bytes = [65; 62].to_vec(alloc)?;
+fn area_of(gate: u8, turn: u8) -> [u8; 62] {
+    let mut bytes = [65; 62];
     bytes[0] = gate;
     bytes[9] = turn;
-    Ok(bytes)
+    bytes
 }
 
 #[test]
@@ -174,8 +177,8 @@ fn the_area_that_is_not_the_newer_is_next(rt: HostRuntime) -> Result<(), Fail> {
         (1, 1, 1, 255, Area::B, 2),
     ];
     for (gate_a, turn_a, gate_b, turn_b, area, turn) in rows {
-        let a = area_of(alloc, gate_a, turn_a)?;
-        let b = area_of(alloc, gate_b, turn_b)?;
+        let a = area_of(gate_a, turn_a).to_vec(alloc)?;
+        let b = area_of(gate_b, turn_b).to_vec(alloc)?;
         let mut disk = MemDisk::new(alloc, a, b, 100, Vec::new(alloc), None)?;
         assert_eq!(rt; survey(&mut disk), Ok(Target { area, turn }));
     }

@@ -1,8 +1,11 @@
 //! What a crash leaves of a disk in memory: torn where a write is pending, and nowhere else.
 
+ghost use Rattle.std.specs.Prelude.{◌≤◌, length};
+
 use crate::Failed;
 use crate::disk::{Area, Disk};
 use crate::memory_disk::MemDisk;
+use crate::tests::{put, shorten};
 use std::alloc::Global;
 use std::test::Fail;
 
@@ -10,7 +13,10 @@ use std::test::Fail;
 const TRIES: u64 = 40;
 
 /// A disk of these bytes with ample room.
-fn disk_of(alloc: Global, a: &[u8], b: &[u8]) -> Result<MemDisk, Fail> {
+fn disk_of(alloc: Global, a: &[u8], b: &[u8]) -> Result<MemDisk, Fail>
+    requires a { length a.now ≤ 1000 }
+    requires b { length b.now ≤ 1000 }
+{
     let a = a.to_vec(alloc)?;
     let b = b.to_vec(alloc)?;
     Ok(MemDisk::new(alloc, a, b, 1000, Vec::new(alloc), None)?)
@@ -30,7 +36,7 @@ fn a_call_past_the_fuse_fails(rt: HostRuntime) -> Result<(), Fail> {
     let a = [10, 20].to_vec(alloc)?;
     let mut disk = MemDisk::new(alloc, a, Vec::new(alloc), 9, Vec::new(alloc), Some(2))?;
     assert_eq!(rt; disk.length(Area::A), Ok(2));
-    assert_eq!(rt; disk.write_at(Area::B, 0, &[7]), Ok(()));
+    assert_eq!(rt; put(&mut disk, Area::B, 0, &[7]), Ok(()));
     assert_eq!(rt; disk.sync(Area::B), Err(Failed), "the third call");
     assert_eq!(rt; disk.length(Area::A), Err(Failed));
     assert_eq!(rt; disk.faults(), 2);
@@ -46,8 +52,8 @@ fn a_call_past_the_fuse_fails(rt: HostRuntime) -> Result<(), Fail> {
 fn what_is_synced_stays(rt: HostRuntime) -> Result<(), Fail> {
     for number in 0..TRIES {
         let mut disk = disk_of(rt.alloc(), &[10, 20, 30], &[7])?;
-        assert_eq!(rt; disk.write_at(Area::A, 1, &[21, 31, 41]), Ok(()));
-        assert_eq!(rt; disk.cut(Area::A, 3), Ok(()));
+        assert_eq!(rt; put(&mut disk, Area::A, 1, &[21, 31, 41]), Ok(()));
+        assert_eq!(rt; shorten(&mut disk, Area::A, 3), Ok(()));
         assert_eq!(rt; disk.sync(Area::A), Ok(()));
         let again = crash_of(disk, number);
         assert_eq!(rt; again.area(Area::A), [10, 21, 31].as_slice());
@@ -58,11 +64,12 @@ fn what_is_synced_stays(rt: HostRuntime) -> Result<(), Fail> {
 
 #[test]
 fn a_write_is_torn_in_its_range(rt: HostRuntime) -> Result<(), Fail> {
-    let mut older = 0;
-    let mut newer = 0;
+    let mut older = false;
+    let mut newer = false;
+    let mut other = false;
     for number in 0..TRIES {
         let mut disk = disk_of(rt.alloc(), &[10, 20, 30, 40], &[7])?;
-        assert_eq!(rt; disk.write_at(Area::A, 1, &[21, 31]), Ok(()));
+        assert_eq!(rt; put(&mut disk, Area::A, 1, &[21, 31]), Ok(()));
         assert_eq!(rt; disk.sync(Area::B), Ok(()), "the other area");
         let again = crash_of(disk, number);
         let bytes = again.area(Area::A);
@@ -70,56 +77,51 @@ fn a_write_is_torn_in_its_range(rt: HostRuntime) -> Result<(), Fail> {
         assert_eq!(rt; bytes[0], 10);
         assert_eq!(rt; bytes[3], 40);
         assert_eq!(rt; again.area(Area::B), [7].as_slice());
-        older += u32::from(bytes[1] == 20);
-        newer += u32::from(bytes[1] == 21);
+        older |= bytes[1] == 20;
+        newer |= bytes[1] == 21;
+        other |= bytes[1] != 20 && bytes[1] != 21;
     }
-    assert_eq!(rt; older > 0, true, "the byte before");
-    assert_eq!(rt; newer > 0, true, "the byte that was written");
-    assert_eq!(rt; older + newer < TRIES as u32, true, "any other byte");
+    assert_eq!(rt; older, true, "the byte before");
+    assert_eq!(rt; newer, true, "the byte that was written");
+    assert_eq!(rt; other, true, "any other byte");
     Ok(())
 }
 
 #[test]
 fn a_cut_leaves_a_length_between(rt: HostRuntime) -> Result<(), Fail> {
-    let mut seen = [0; 5];
+    let mut seen = [false; 5];
     for number in 0..TRIES {
         let mut disk = disk_of(rt.alloc(), &[10, 20, 30, 40], &[])?;
-        assert_eq!(rt; disk.cut(Area::A, 1), Ok(()));
+        assert_eq!(rt; shorten(&mut disk, Area::A, 1), Ok(()));
         assert_eq!(rt; disk.area(Area::A), [10].as_slice());
         let again = crash_of(disk, number);
         let bytes = again.area(Area::A);
         assert_eq!(rt; [10, 20, 30, 40].starts_with(bytes), true);
-        if let Some(times) = seen.get_mut(bytes.len()) {
-            *times += 1;
+        if let Some(length) = seen.get_mut(bytes.len()) {
+            *length = true;
         }
     }
-    assert_eq!(rt; seen[0], 0, "no shorter than the cut");
     assert_eq!(rt;
-        seen[1..].iter().all(|&times| times > 0),
-        true,
-        "each length"
+        seen,
+        [false, true, true, true, true],
+        "each length from 1 to 4"
     );
     Ok(())
 }
 
 #[test]
 fn a_write_past_the_end_leaves_a_length_between(rt: HostRuntime) -> Result<(), Fail> {
-    let mut seen = [0; 4];
+    let mut seen = [false; 4];
     for number in 0..TRIES {
         let mut disk = disk_of(rt.alloc(), &[10], &[])?;
-        assert_eq!(rt; disk.write_at(Area::A, 1, &[20, 30]), Ok(()));
+        assert_eq!(rt; put(&mut disk, Area::A, 1, &[20, 30]), Ok(()));
         let again = crash_of(disk, number);
         let bytes = again.area(Area::A);
         assert_eq!(rt; bytes.first(), Some(&10));
-        if let Some(times) = seen.get_mut(bytes.len()) {
-            *times += 1;
+        if let Some(length) = seen.get_mut(bytes.len()) {
+            *length = true;
         }
     }
-    assert_eq!(rt; seen[0], 0, "the first byte was synced");
-    assert_eq!(rt;
-        seen[1..].iter().all(|&times| times > 0),
-        true,
-        "each length"
-    );
+    assert_eq!(rt; seen, [false, true, true, true], "each length from 1 to 3");
     Ok(())
 }
