@@ -5,7 +5,7 @@ ghost use Rattle.std.specs.Prelude.{◌≤◌, length};
 use crate::Failed;
 use crate::disk::{Area, Disk};
 use crate::memory_disk::MemDisk;
-use crate::tests::{put, shorten};
+use crate::tests::{put, settle, shorten, size};
 use std::alloc::Global;
 use std::test::Fail;
 
@@ -25,7 +25,7 @@ fn disk_of(alloc: Global, a: &[u8], b: &[u8]) -> Result<MemDisk, Fail>
 /// One of the crashes: calls that change nothing come before it.
 fn crash_of(mut disk: MemDisk, number: u64) -> MemDisk {
     for _ in 0..number {
-        let _ = disk.length(Area::A);
+        let _ = size(&mut disk, Area::A);
     }
     disk.crash()
 }
@@ -35,16 +35,16 @@ fn a_call_past_the_fuse_fails(rt: HostRuntime) -> Result<(), Fail> {
     let alloc = rt.alloc();
     let a = [10, 20].to_vec(alloc)?;
     let mut disk = MemDisk::new(alloc, a, Vec::new(alloc), 9, Vec::new(alloc), Some(2))?;
-    assert_eq!(rt; disk.length(Area::A), Ok(2));
+    assert_eq!(rt; size(&mut disk, Area::A), Ok(2));
     assert_eq!(rt; put(&mut disk, Area::B, 0, &[7]), Ok(()));
-    assert_eq!(rt; disk.sync(Area::B), Err(Failed), "the third call");
-    assert_eq!(rt; disk.length(Area::A), Err(Failed));
+    assert_eq!(rt; settle(&mut disk, Area::B), Err(Failed), "the third call");
+    assert_eq!(rt; size(&mut disk, Area::A), Err(Failed));
     assert_eq!(rt; disk.faults(), 2);
     let mut again = disk.crash();
     assert_eq!(rt; again.faults(), 0);
-    assert_eq!(rt; again.length(Area::A), Ok(2));
-    assert_eq!(rt; again.sync(Area::A), Ok(()));
-    assert_eq!(rt; again.length(Area::A), Ok(2), "no fuse is left");
+    assert_eq!(rt; size(&mut again, Area::A), Ok(2));
+    assert_eq!(rt; settle(&mut again, Area::A), Ok(()));
+    assert_eq!(rt; size(&mut again, Area::A), Ok(2), "no fuse is left");
     Ok(())
 }
 
@@ -54,7 +54,7 @@ fn what_is_synced_stays(rt: HostRuntime) -> Result<(), Fail> {
         let mut disk = disk_of(rt.alloc(), &[10, 20, 30], &[7])?;
         assert_eq!(rt; put(&mut disk, Area::A, 1, &[21, 31, 41]), Ok(()));
         assert_eq!(rt; shorten(&mut disk, Area::A, 3), Ok(()));
-        assert_eq!(rt; disk.sync(Area::A), Ok(()));
+        assert_eq!(rt; settle(&mut disk, Area::A), Ok(()));
         let again = crash_of(disk, number);
         assert_eq!(rt; again.area(Area::A), [10, 21, 31].as_slice());
         assert_eq!(rt; again.area(Area::B), [7].as_slice());
@@ -70,7 +70,7 @@ fn a_write_is_torn_in_its_range(rt: HostRuntime) -> Result<(), Fail> {
     for number in 0..TRIES {
         let mut disk = disk_of(rt.alloc(), &[10, 20, 30, 40], &[7])?;
         assert_eq!(rt; put(&mut disk, Area::A, 1, &[21, 31]), Ok(()));
-        assert_eq!(rt; disk.sync(Area::B), Ok(()), "the other area");
+        assert_eq!(rt; settle(&mut disk, Area::B), Ok(()), "the other area");
         let again = crash_of(disk, number);
         let bytes = again.area(Area::A);
         assert_eq!(rt; bytes.len(), 4);
