@@ -45,7 +45,7 @@ fn run(
     let script = Vec::from_slice(alloc, script)?;
     let mut source = MemSource::new(script, outside.read_step, failing_read);
     let mut sink = MemSink::new(alloc, 4096, outside.write_step, failing_write)?;
-    let mut disk = MemDisk::new(alloc, Vec::new(alloc), Vec::new(alloc), 0, Vec::new(alloc))?;
+    let mut disk = MemDisk::new(alloc, Vec::new(alloc), Vec::new(alloc), 0, Vec::new(alloc), None)?;
     let status = amr(alloc, words, &mut source, &mut sink, &mut disk);
     Ok((status, sink))
 }

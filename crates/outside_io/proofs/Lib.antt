@@ -1,3 +1,9 @@
 pub mod Counting
+pub mod Following
+pub mod Logged
+pub mod Moments
 pub mod Moving
+pub mod NoChange
 pub mod Outcomes
+pub mod Places
+pub mod Sound

@@ -1,6 +1,8 @@
 -- What the objects in memory hold, when their calls fail, and what the others leave.
-use Rattle.std.specs.Prelude.{ℕ, ◌+◌, ◌-◌, min, Bool, ◌||◌, ◌&&◌, nat_lt, nat_le, List, ◌++◌, length, drop}
-use Rattle.outside_io.specs.Areas.{Areas}
+use Rattle.std.specs.Prelude.{ℕ, ◌+◌, ◌-◌, min, Bool, false, ◌||◌, ◌&&◌, nat_lt, nat_le, List, [], ◌∷◌, ◌++◌, length, drop, Option, Some, None}
+use Rattle.outside_io.specs.declared.disk.Area.{Area}
+use Rattle.outside_io.specs.Areas.{Areas, with_bytes}
+use Rattle.outside_io.specs.Log.{Change, Entry, Stands, Both}
 use Rattle.outside_io.specs.Calls.{Calls, named, passed, failed}
 
 -- the bytes that are left, and the most that a read gives
@@ -44,28 +46,58 @@ after_write piece sink = record { taken = sink.taken ++ piece; room = sink.room;
 abbrev pub after_failed_write : SinkState → SinkState
 after_failed_write sink = record { taken = sink.taken; room = sink.room; step = sink.step; calls = failed sink.calls }
 
--- the bytes of the areas, the room of each, and how many bytes were written in all
+-- an area's bytes with what is pending, and the room for them
+pub record AreaState : Type 0 where
+  pub stands : Stands
+  pub room : ℕ
+
+-- both areas' bytes with what is pending, and the room of each
+pub record AreasState : Type 0 where
+  pub both : Both
+  pub room : ℕ
+
+-- the bytes of the areas, the room of each, how many bytes were written in all, the calls, the number of calls after which
+-- each fails, the bytes at first, and what was done since
 pub record DiskState : Type 0 where
   pub areas : Areas
   pub room : ℕ
   pub written : ℕ
   pub calls : Calls
+  pub fuse : Option ℕ
+  pub first : Areas
+  pub log : List Entry
 
--- the call is named, or its number is above the room
+-- so many calls were made that the fuse is burnt
+abbrev pub past_fuse : Option ℕ → ℕ → Bool
+past_fuse None made = false
+past_fuse (Some k) made = nat_le k made
+
+-- the call is named, or its number is above the room or the fuse
 abbrev pub disk_fails : DiskState → Bool
-disk_fails disk = named disk.calls || nat_le disk.room disk.calls.made
+disk_fails disk = named disk.calls || nat_le disk.room disk.calls.made || past_fuse disk.fuse disk.calls.made
 
 -- or the area, or all that was written, would be longer than the room
 abbrev pub disk_write_fails : DiskState → ℕ → List ℕ → Bool
 disk_write_fails disk place piece =
     disk_fails disk || nat_lt disk.room (place + length piece) || nat_lt disk.room (disk.written + length piece)
 
--- after a call that did its work, and wrote so many bytes
-abbrev pub after_disk_call : Areas → ℕ → DiskState → DiskState
-after_disk_call areas more disk =
-    record { areas = areas; room = disk.room; written = disk.written + more; calls = passed disk.calls }
+-- after a call that changed nothing
+abbrev pub after_disk_call : DiskState → DiskState
+after_disk_call disk = record { areas = disk.areas; room = disk.room; written = disk.written; calls = passed disk.calls; fuse = disk.fuse; first = disk.first; log = disk.log }
 
 -- after a call that failed
 abbrev pub after_failed_disk_call : DiskState → DiskState
-after_failed_disk_call disk =
-    record { areas = disk.areas; room = disk.room; written = disk.written; calls = failed disk.calls }
+after_failed_disk_call disk = record { areas = disk.areas; room = disk.room; written = disk.written; calls = failed disk.calls; fuse = disk.fuse; first = disk.first; log = disk.log }
+
+-- after a call that changed an area's bytes to these, or synced it
+abbrev pub after_disk_change : Area → Change → List ℕ → ℕ → DiskState → DiskState
+after_disk_change area change bytes more disk =
+    record {
+      areas = with_bytes disk.areas area bytes;
+      room = disk.room;
+      written = disk.written + more;
+      calls = passed disk.calls;
+      fuse = disk.fuse;
+      first = disk.first;
+      log = disk.log ++ (record { area = area; change = change }) ∷ [];
+    }

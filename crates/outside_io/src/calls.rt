@@ -2,7 +2,7 @@
 ghost use Rattle.outside_io.specs.Calls.{counted, named, passed};
 ghost use Rattle.outside_io.specs.Moved.{Rose};
 ghost use Rattle.std.specs.List.{list_any};
-ghost use Rattle.std.specs.Prelude.{◌≡◌, ℕ, ◌+◌, ◌==◌, List};
+ghost use Rattle.std.specs.Prelude.{◌≡◌, ℕ, ◌+◌, ◌==◌, List, []};
 
 use crate::Failed;
 use crate::faults::raise;
@@ -43,6 +43,15 @@ impl Calls {
             fails,
             faults: 0,
         }
+    }
+
+    /// The same with no calls made, and none that fails.
+    pub fn again(self) -> Calls
+        ensures { result ≡ record { made = 0; fails = []; faults = 0 } }
+    {
+        let mut fails = self.fails;
+        fails.clear();
+        Calls::new(fails)
     }
 
     /// Counts a call, and tells whether it is one of those that fail.

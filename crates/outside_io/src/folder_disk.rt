@@ -9,8 +9,8 @@ use std::io;
 use std::io::{ErrorKind, Read, Seek, SeekFrom, Write};
 
 /// The files `amr_a.chk` and `amr_b.chk` of a folder as a disk's areas. They are opened in each call. A file that
-/// is missing has length 0, and the first write makes it. The disk tells nothing of its bytes. Each error of
-/// the system is a fault, want of memory for a path among them.
+/// is missing has length 0, and the first write makes it. The disk tells nothing of its bytes, nor of
+/// what a crash leaves. Each error of the system is a fault, want of memory for a path among them.
 #[derive(Drop)]
 pub struct FolderDisk<'a, R: Files + Alloc> {
     rt: &'a R,
@@ -95,7 +95,19 @@ impl<'a, R: Files + Alloc> FolderDisk<'a, R> {
 impl<'a, R: Files + Alloc> Disk for FolderDisk<'a, R> {
     ghost holds = { λ d. None };
 
+    ghost may_leave = { λ _ _. Unit {0} };
+
+    ghost moment = { λ _. 0 };
+
+    ghost left_since = { λ _ _ _. Unit {0} };
+
     ghost faults = { λ d. d.faults };
+
+    ghost read_is_possible = { λ _. tt };
+
+    ghost counts_now = { λ _ _ _ _ _. tt };
+
+    ghost only_now = { λ _ _ _. tt };
 
     fn length(&mut self, area: Area) -> Result<u64, Failed> {
         counting(self.file_length(area), &mut self.faults)

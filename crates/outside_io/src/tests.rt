@@ -47,29 +47,59 @@ fn writes_a_few_bytes_at_a_time(rt: HostRuntime) -> Result<(), Fail> {
     Ok(())
 }
 
+/// The area's length. Like the calls below it tells its caller's proof nothing of the disk.
+pub fn size(disk: &mut MemDisk, area: Area) -> Result<u64, Failed> {
+    disk.length(area)
+}
+
+/// Syncs the area.
+pub fn settle(disk: &mut MemDisk, area: Area) -> Result<(), Failed> {
+    disk.sync(area)
+}
+
+/// Writes where the place is within the area.
+pub fn put(disk: &mut MemDisk, area: Area, place: u64, piece: &[u8]) -> Result<(), Failed> {
+    if place > disk.area(area).len() as u64 {
+        return Err(Failed);
+    }
+    disk.write_at(area, place, piece)
+}
+
+/// Cuts an area that is as long.
+pub fn shorten(disk: &mut MemDisk, area: Area, most: u64) -> Result<(), Failed> {
+    if most > disk.area(area).len() as u64 {
+        return Err(Failed);
+    }
+    disk.cut(area, most)
+}
+
 #[test]
 fn keeps_two_areas(rt: HostRuntime) -> Result<(), Fail> {
     let a = [10, 20, 30].to_vec(rt.alloc())?;
     let b = [7].to_vec(rt.alloc())?;
-    let mut disk = MemDisk::new(rt.alloc(), a, b, 7, [2].to_vec(rt.alloc())?)?;
-    assert_eq!(rt; disk.length(Area::A), Ok(3));
-    assert_eq!(rt; disk.sync(Area::A), Err(Failed), "the second call fails");
-    assert_eq!(rt; disk.write_at(Area::A, 2, &[31, 40]), Ok(()));
+    let mut disk = MemDisk::new(rt.alloc(), a, b, 7, [2].to_vec(rt.alloc())?, None)?;
+    assert_eq!(rt; size(&mut disk, Area::A), Ok(3));
+    assert_eq!(rt;
+        settle(&mut disk, Area::A),
+        Err(Failed),
+        "the second call fails"
+    );
+    assert_eq!(rt; put(&mut disk, Area::A, 2, &[31, 40]), Ok(()));
     assert_eq!(rt; disk.area(Area::A), [10, 20, 31, 40].as_slice());
     let mut buf = [0; 4];
     assert_eq!(rt; disk.read_at(Area::A, 1, &mut buf), Ok(3));
     assert_eq!(rt; buf, [20, 31, 40, 0]);
-    assert_eq!(rt; disk.cut(Area::A, 1), Ok(()));
+    assert_eq!(rt; shorten(&mut disk, Area::A, 1), Ok(()));
     assert_eq!(rt; disk.area(Area::A), [10].as_slice());
     assert_eq!(rt;
-        disk.write_at(Area::B, 1, &[8, 9, 10, 11, 12, 13]),
+        put(&mut disk, Area::B, 1, &[8, 9, 10, 11, 12, 13]),
         Err(Failed),
         "eight bytes written"
     );
     assert_eq!(rt; disk.area(Area::B), [7].as_slice());
-    assert_eq!(rt; disk.sync(Area::B), Ok(()));
+    assert_eq!(rt; settle(&mut disk, Area::B), Ok(()));
     assert_eq!(rt;
-        disk.sync(Area::B),
+        settle(&mut disk, Area::B),
         Err(Failed),
         "the call after the seventh"
     );
