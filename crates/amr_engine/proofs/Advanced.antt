@@ -76,22 +76,13 @@ module _ (names : VariableNames) (w : WorldState) (outs : List ℤ) (marks : Mar
       pub advect_is : mesh_of names new (set outs var out) marks ≡ advect now var (three speeds)
       unfolding mesh_of
       advect_is =
-          mesh_shown names new (set outs var out) marks (advect now var (three speeds)) steps.3 advect_valid refl laid.face laid.edge
+          mesh_shown names new (set outs var out) marks (advect now var (three speeds)) steps.3 advect_valid refl laid.edge
           (outs_set now var speeds valid named outs out laid.flowed (λ u. refl) steps.1)
           (λ b. ap (λ (t : Told). refine_of t.grid marks b) told) (λ b. ap (λ (t : Told). derefine_of t.grid marks b) told)
 
       pub advect_laid : IsLaidOut names new (set outs var out) marks
-      advect_laid =
-          let after = laid_after names w outs marks laid valid new told in
-          record {
-            cells = after.cells;
-            faces = after.faces;
-            edges = after.edges;
-            face = laid.face;
-            edge = laid.edge;
-            flowed = length-set outs var out ∙ laid.flowed;
-            room = after.room;
-          }
+      unfolding mesh_of
+      advect_laid = laid_after names w outs marks laid valid new (set outs var out) (advect now var (three speeds)) told steps.3 advect_valid refl (length-set outs var out ∙ laid.flowed)
 
     -- or hindered, which leaves the mesh
     pub hindered : (hindrance : Hindrance) → Steps now var speeds new (Err hindrance) → Changes (Err (cause_told var speeds hindrance)) now (Advect var speeds) (mesh_of names new outs marks)

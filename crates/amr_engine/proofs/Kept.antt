@@ -1,16 +1,18 @@
 -- Worlds that change only where no leaf's cells stand.
 use Rattle.std.proofs.Common.{◌≡◌, ℕ, ◌<◌, false, ◌==◌, ℤ, sym, ap, subst, ◌∙◌, inl, inr, eqb-true, eq-eqb}
 use Rattle.std.proofs.lemmas.Bool.{cases_Bool}
+use Rattle.amr_num.specs.declared.Axis.{Axis}
 use Rattle.amr_num.specs.declared.CellAt.{CellAt}
 use Rattle.block_tree.specs.Numbered.{block_at}
 use Rattle.flux_conserve.specs.Work.{OnlyWorkFaces}
 use Rattle.guard_fill.specs.Filling.{OnlyGuards}
 use Rattle.guard_fill.specs.Restricting.{OnlyParents}
-use Rattle.mesh_model.specs.declared.fields.values.Var.TheVariants.{Cell}
+use Rattle.mesh_model.specs.declared.fields.values.Var.TheVariants.{Cell, Face}
 use Rattle.mesh_model.specs.Fields.ArrayPlaces.{HoldsViews}
 use Rattle.mesh_model.specs.Fields.Octants.{cells_of}
 use Rattle.mesh_model.specs.Fields.Ranks.{Told, WorldState}
-use Rattle.rank_world.specs.Holding.{IsLeafNode, NodeHolds, OnlyCells, cell_array}
+use Rattle.rank_world.specs.Holding.{IsLeafNode, NodeHolds, OnlyCells, cell_array, face_array}
+use Rattle.rank_world.proofs.Meshes.{faces_same}
 use Rattle.amr_engine.specs.Settling.{OnlyWorkCells}
 use Rattle.amr_engine.specs.Stepping.{KeepsMeshes}
 use Rattle.amr_engine.proofs.Filled.{holds_same}
@@ -19,8 +21,12 @@ use Rattle.amr_engine.proofs.Filled.{holds_same}
 abbrev pub KeepsLeaves : WorldState → WorldState → Type 0
 KeepsLeaves old new = (v node : ℕ) (content : CellAt → ℤ) → IsLeafNode old.told.grid node → NodeHolds old v content node → NodeHolds new v content node
 
-pub meshes_kept : (old new : WorldState) → new.told ≡ old.told → KeepsLeaves old new → KeepsMeshes old new
-meshes_kept old new told keeps m of = record {
+-- and all numbers on faces are what they were
+abbrev pub KeepsFaces : WorldState → WorldState → Type 0
+KeepsFaces old new = (x : Axis) (node : ℕ) → face_array new x node ≡ face_array old x node
+
+pub meshes_kept : (old new : WorldState) → new.told ≡ old.told → KeepsLeaves old new → KeepsFaces old new → KeepsMeshes old new
+meshes_kept old new told keeps same m of = record {
   grid = ap (λ (t : Told). t.grid) told ∙ of.grid;
   cells = ap (λ (t : Told). t.counts.cells) told ∙ of.cells;
   faces = (λ zero. of.faces.0 (sym (ap (λ (t : Told). t.counts.faces) told) ∙ zero), λ none. ap (λ (t : Told). t.counts.faces) told ∙ of.faces.1 none);
@@ -28,6 +34,7 @@ meshes_kept old new told keeps m of = record {
   contents = λ v below node leaf.
       let there : IsLeafNode old.told.grid node = subst (λ (t : Told). IsLeafNode t.grid node) told leaf in
       keeps v node (m.cells v) there (of.contents v (subst (λ (t : Told). v < t.counts.cells) told below) node there);
+  on_faces = λ some. faces_same old new m.faces told (λ x node leaf. same x node) (of.on_faces (subst (λ (t : Told). 0 < t.counts.faces) told some));
 }
 
 same_variable : (v u : ℕ) → Cell u ≡ Cell v → u ≡ v
@@ -66,3 +73,13 @@ faces_kept old new only u node content leaf holds = holds_same old new u node co
 
 pub work_kept : (old new : WorldState) → OnlyWorkCells old new → KeepsLeaves old new
 work_kept old new only u node content leaf holds = holds_same old new u node content only.told (only.others (Cell u) node (λ e. absurd (cc))) holds
+
+-- where the numbers of cells alone change, or those of work arrays, all numbers on faces are what they were
+pub cells_keep_faces : (old new : WorldState) (v : ℕ) → OnlyCells old new v → KeepsFaces old new
+cells_keep_faces old new v only x node = only.others (Face x) node (λ is. absurd cc)
+
+pub work_keeps_faces : (old new : WorldState) → OnlyWorkCells old new → KeepsFaces old new
+work_keeps_faces old new only x node = only.others (Face x) node (λ is. absurd cc)
+
+pub work_faces_keep_faces : (old new : WorldState) → OnlyWorkFaces old new → KeepsFaces old new
+work_faces_keep_faces old new only x node = only.others (Face x) node (λ a is leaf. absurd cc)

@@ -14,7 +14,8 @@ use Rattle.mesh_model.specs.Fields.Ranks.{Told, WorldState}
 use Rattle.rank_world.specs.Holding.{IsLeafNode, IsOfMesh, LeavesHold, OnlyCells}
 use Rattle.amr_engine.specs.Settling.{AreFluxed, OnlyWorkCells, WorkCellsHold}
 use Rattle.amr_engine.specs.Stepping.{KeepsMeshes, content_after, first_above}
-use Rattle.amr_engine.proofs.Kept.{meshes_kept, others_kept, work_kept}
+use Rattle.amr_engine.proofs.Kept.{cells_keep_faces, meshes_kept, others_kept, work_keeps_faces, work_kept}
+use Rattle.rank_world.proofs.Meshes.{faces_same}
 use Rattle.amr_engine.proofs.Machine.{kept_128, wide}
 
 -- what had flowed out and what flows out, as the machine adds them
@@ -58,7 +59,7 @@ module _ (old blown : WorldState) (v : ℕ) (speeds : List ℤ) (m : Mesh) (of :
   module _ (settled : WorldState) (work : OnlyWorkCells blown settled) where
     -- contents stay until they are taken over
     pub still_of : IsOfMesh settled m
-    still_of = meshes_kept blown settled work.told (work_kept blown settled work) m (meshes m of)
+    still_of = meshes_kept blown settled work.told (work_kept blown settled work) (work_keeps_faces blown settled work) m (meshes m of)
 
     module _ (taken : WorldState) (only : OnlyCells settled taken v) (made : WorkCellsHold settled (advected blown.told.grid (m.cells v) (three speeds)))
         (holds : (content : CellAt → ℤ) → WorkCellsHold settled content → LeavesHold taken v content) where
@@ -81,4 +82,5 @@ module _ (old blown : WorldState) (v : ℕ) (speeds : List ℤ) (m : Mesh) (of :
         faces = (λ zero. still_of.faces.0 (sym (ap (λ (t : Told). t.counts.faces) only.told) ∙ zero), λ none. ap (λ (t : Told). t.counts.faces) only.told ∙ still_of.faces.1 none);
         edges = (λ zero. still_of.edges.0 (sym (ap (λ (t : Told). t.counts.edges) only.told) ∙ zero), λ none. ap (λ (t : Told). t.counts.edges) only.told ∙ still_of.edges.1 none);
         contents = new_holds;
+        on_faces = λ some. faces_same settled taken m.faces only.told (λ x node leaf. cells_keep_faces settled taken v only x node) (still_of.on_faces (subst (λ (t : Told). 0 < t.counts.faces) only.told some));
       }

@@ -40,7 +40,7 @@ pub struct Engine<const N: usize, const G: usize> {
 ghost use Rattle.amr_engine.specs.EngineMesh.{IsLaidOut, mesh_of};
 ghost use Rattle.mesh_model.specs.Fields.Ranks.{IsFit};
 ghost use Rattle.mesh_model.specs.Fields.Valid.{ValidMesh};
-ghost use Rattle.std.specs.Prelude.{◌≡◌, IfOk, MatchResult, Ok, Err, pos, replicate};
+ghost use Rattle.std.specs.Prelude.{◌≡◌, ◌↔◌, None, IfOk, MatchResult, Ok, Err, pos, replicate};
 
 /// A call that prints stops a command where the sink fails.
 fn written(printed: Result<(), Failed>) -> Result<(), Cause>
@@ -62,6 +62,16 @@ fn zero_outs(alloc: Global, variables: u32) -> Result<Vec<i128>, OutOfMemory>
     }
 }
 
+/// How many face variables are declared: none or one.
+fn face_variables(names: &Names) -> u32
+    ensures any { (result ≡ 0) ↔ (names.now.face ≡ None) }
+{
+    match names.face() {
+        Some(_) => 1,
+        None => 0,
+    }
+}
+
 impl<const N: usize, const G: usize> Engine<N, G> {
     ghost use Rattle.amr_engine.specs.Built.{IsBuiltLine, is_built_command};
     ghost use Rattle.amr_engine.specs.Plain.{declared_of, plain};
@@ -79,22 +89,23 @@ impl<const N: usize, const G: usize> Engine<N, G> {
     ghost use Rattle.mesh_model.specs.Run.Stops.{refusal};
     ghost use Rattle.mesh_model.specs.Run.Texts.{total_text, variable_text};
     ghost use Rattle.outside_io.specs.Moved.{Takes};
-    ghost use Rattle.std.specs.Prelude.{◌≤◌, ◌^◌, true, IfErr, IfOk, None, OnErr, OnOk, length};
+    ghost use Rattle.std.specs.Prelude.{◌≤◌, ◌^◌, true, IfErr, IfOk, OnErr, OnOk, length};
 
     /// The start mesh of what was declared: all contents 0. `N` and `G` are the shape's.
     pub fn new(alloc: Global, declared: Declared) -> Result<Engine<N, G>, OutOfMemory>
         requires shape { IsShape declared.shape }
         requires sizes { IsSized N G declared.shape }
-        requires groups { (declared.names.face ≡ None) × (declared.names.edge ≡ None) }
+        requires edge { declared.names.edge ≡ None }
         requires few { length declared.names.cells ≤ 4 }
         ensures mesh { IfOk result (λ engine. plain engine ≡ start_mesh declared.shape declared.names) }
         ensures declared { IfOk result (λ engine. declared_of engine ≡ declared) }
     {
         let Declared { shape, names } = declared;
         let variables = names.cells();
+        let faces = face_variables(&names);
         let layout = Layout {
             cells: variables,
-            faces: 0,
+            faces,
             edges: 0,
         };
         let world = World::new(alloc, shape, layout)?;

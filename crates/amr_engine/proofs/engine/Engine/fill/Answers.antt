@@ -1,7 +1,7 @@
 use Rattle.std.proofs.Common.{◌<◌, arith, sym, subst}
 use Rattle.mesh_model.specs.Fields.Valid.{ValidMesh}
 use Rattle.amr_engine.specs.EngineMesh.{mesh_of}
-use Rattle.amr_engine.proofs.Made.{filled_is, filled_valid, laid_after, tree_now}
+use Rattle.amr_engine.proofs.Made.{filled_is, filled_laid, filled_valid, tree_now}
 use Rattle.amr_engine.proofs.Regions.{region_small}
 use Rattle.amr_engine.proofs.ValidOut.{mesh_out}
 use Rattle.amr_engine.proofs.engine.Engine.fill.Goals as goal
@@ -31,7 +31,7 @@ invariant_of-self g c =
     let after = filled_valid self.names self.world self.outs.items self.marks self.laid_out valid c.args.var c.args.fill c.fill_leaves.new.world c.requires.variable only c.fill_leaves.ensures.filled c.requires.region c.requires.value in
     record {
       fit = c.fill_leaves.ensures.fit;
-      laid_out = laid_after self.names self.world self.outs.items self.marks self.laid_out valid c.fill_leaves.new.world only.told;
+      laid_out = filled_laid self.names self.world self.outs.items self.marks self.laid_out valid c.args.var c.args.fill c.fill_leaves.new.world c.requires.variable only c.fill_leaves.ensures.filled after;
       valid = ∣ subst ValidMesh (sym (filled_is self.names self.world self.outs.items self.marks self.laid_out valid c.args.var c.args.fill c.fill_leaves.new.world c.requires.variable only c.fill_leaves.ensures.filled after)) after ∣₁;
     }
 
