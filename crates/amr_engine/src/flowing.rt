@@ -7,8 +7,10 @@ ghost use Rattle.block_tree.specs.Numbered.{IsNode, block_at};
 ghost use Rattle.flux_conserve.specs.Work.{IsJumpNode, OnlyWorkFaces, WorkHolds, WorkWithin};
 ghost use Rattle.guard_fill.specs.Filling.{LeavesSided};
 ghost use Rattle.mesh_model.specs.Fields.Advect.{is_closed_kind, keeps_courant, leaf_flux, speed as speed_on, three};
-ghost use Rattle.mesh_model.specs.Fields.ArrayPlaces.{face_extents, size_of};
-ghost use Rattle.mesh_model.specs.Fields.Ranks.{IsFit};
+ghost use Rattle.mesh_model.specs.Fields.ArrayPlaces.{IsSize, cell_extents, face_extents, number_at, size_of};
+ghost use Rattle.mesh_model.specs.Fields.Ranks.{IsFit, IsSized};
+ghost use Rattle.mesh_model.specs.Tree.Kinds.{Grid};
+ghost use Rattle.step_advect.specs.Fluxed.{AreSidesWithin};
 ghost use Rattle.mesh_model.specs.Geometry.Blocks.{InDomain};
 ghost use Rattle.mesh_model.specs.Geometry.Coordinates.{side_index, side_kind};
 ghost use Rattle.mesh_model.specs.Geometry.Limits.{IsShape};
@@ -90,6 +92,41 @@ fn is_closed_high(shape: &Shape, axis: Axis, block: BlockAt) -> bool
     is_last && is_closed(high_side(shape, axis))
 }
 
+/// Sets the faces of a block normal to an axis to the fluxes of the field of which its cells have the views.
+fn flux_cells<const N: usize, const G: usize>(
+    shape: &Shape,
+    block: BlockAt,
+    cells: &[i64],
+    axis: Axis,
+    speeds: [i64; 3],
+    out: &mut [i64],
+)
+    requires size { IsSize N G }
+    requires shape { IsShape shape.now }
+    requires inside { InDomain shape.now block }
+    requires cells { length cells.now ≡ size_of (cell_extents N G) }
+    requires speeds { AreThree (2 ^ 20) speeds }
+    requires courant { keeps_courant shape.now (three speeds) ≡ true }
+    requires small { AreSidesWithin (2 ^ 56) N G axis (number_at (cell_extents N G) cells.now) }
+    requires out { length out.old ≡ size_of (face_extents N G axis) }
+    ensures size { length out.new ≡ length out.old }
+    ensures fluxes { (g : Grid) → shape.now ≡ g.shape → IsSized N G g.shape → AreFluxes g (three speeds) axis block cells.now out.new }
+{
+    let closed_low = is_closed_low(shape, axis, block);
+    let closed_high = is_closed_high(shape, axis, block);
+    let speed = speed_along(speeds, axis);
+    let cells = Cells::<N, G>::new(cells);
+    face_fluxes(
+        &cells,
+        axis,
+        block.level,
+        speed,
+        closed_low,
+        closed_high,
+        out,
+    );
+}
+
 /// Sets the faces of a leaf normal to an axis, in an array of their own, to the fluxes of the variable.
 pub(crate) fn flux_along<const N: usize, const G: usize>(
     world: &World<N, G>,
@@ -109,19 +146,8 @@ pub(crate) fn flux_along<const N: usize, const G: usize>(
     let tree = world.tree();
     let shape = tree.shape();
     let block = tree.at(node);
-    let closed_low = is_closed_low(&shape, axis, block);
-    let closed_high = is_closed_high(&shape, axis, block);
-    let speed = speed_along(speeds, axis);
-    let cells = Cells::<N, G>::new(world.values(Var::Cell(v), node));
-    face_fluxes(
-        &cells,
-        axis,
-        block.level,
-        speed,
-        closed_low,
-        closed_high,
-        out,
-    );
+    let cells = world.values(Var::Cell(v), node);
+    flux_cells::<N, G>(&shape, block, cells, axis, speeds, out);
 }
 
 /// Gives the work faces of a leaf normal to an axis the fluxes of the variable.
@@ -141,9 +167,6 @@ fn flow_axis<const N: usize, const G: usize>(
     let tree = world.tree();
     let shape = tree.shape();
     let block = tree.at(node);
-    let closed_low = is_closed_low(&shape, axis, block);
-    let closed_high = is_closed_high(&shape, axis, block);
-    let speed = speed_along(speeds, axis);
     let Beside {
         a,
         b: _,
@@ -151,16 +174,7 @@ fn flow_axis<const N: usize, const G: usize>(
         d: _,
         out,
     } = world.beside(node, [Var::Cell(v); 4], Var::FaceWork(axis));
-    let cells = Cells::<N, G>::new(a);
-    face_fluxes(
-        &cells,
-        axis,
-        block.level,
-        speed,
-        closed_low,
-        closed_high,
-        out,
-    );
+    flux_cells::<N, G>(&shape, block, a, axis, speeds, out);
 }
 
 /// Gives all work faces of a leaf the fluxes of the variable.

@@ -7,13 +7,12 @@ use Rattle.amr_num.specs.declared.BlockAt.{BlockAt}
 use Rattle.amr_num.specs.declared.FaceAt.{FaceAt}
 use Rattle.mesh_model.specs.declared.fields.values.Var.TheVariants.{FaceWork}
 use Rattle.mesh_model.specs.Geometry.Canonical.{canonical_on}
-use Rattle.mesh_model.specs.Geometry.Coordinates.{axis_index, face_of}
+use Rattle.mesh_model.specs.Geometry.Coordinates.{face_of}
 use Rattle.mesh_model.specs.Geometry.Places.{in_block}
 use Rattle.mesh_model.specs.Tree.Kinds.{Grid, is_leaf_block}
 use Rattle.mesh_model.specs.Tree.ValidGrid.{Valid}
 use Rattle.mesh_model.specs.Fields.ArrayPlaces.{face_extents, number_at}
 use Rattle.mesh_model.specs.Fields.Ranks.{IsFit, RankState, Told, WorldState}
-use Rattle.mesh_model.proofs.FieldLemmas.BlockArrays.{number_once}
 use Rattle.mesh_model.proofs.GeometryLemmas.ShapeLimits.{cells_some}
 use Rattle.block_tree.specs.Numbered.{IsNumberOf, block_at}
 use Rattle.rank_world.specs.Holding.{IsLeafNode}

@@ -1,54 +1,38 @@
-use Rattle.std.proofs.Common.{◌≡◌, ◌*◌, ◌^◌, ◌≤◌, ◌&&◌, suc, List, ℤ, length, unsigned_abs, refl, to_z, of_z, ap, sym, subst, ◌∙◌, arith}
-use Rattle.std.specs.Int.{w64}
-use Rattle.amr_num.proofs.Machine.{kept}
+use Rattle.std.proofs.Common.{◌≡◌, ◌^◌, true, List, ℤ, length, ap, sym, subst, ◌∙◌, arith}
 use Rattle.mesh_model.specs.declared.fields.values.Var.TheVariants.{FaceWork}
 use Rattle.mesh_model.specs.declared.geometry.Shape.{Shape}
-use Rattle.mesh_model.specs.Fields.Advect.{is_closed_kind, three}
+use Rattle.mesh_model.specs.Fields.Advect.{keeps_courant, three}
 use Rattle.mesh_model.specs.Fields.Arrays.{var_length}
 use Rattle.mesh_model.specs.Fields.ArrayPlaces.{cell_extents, number_at}
 use Rattle.mesh_model.specs.Geometry.Blocks.{InDomain}
-use Rattle.mesh_model.specs.Geometry.Coordinates.{side_index, side_kind}
 use Rattle.mesh_model.specs.Tree.Kinds.{Grid}
 use Rattle.mesh_model.specs.Tree.ValidGrid.{Valid}
 use Rattle.block_tree.proofs.Facts.{known}
 use Rattle.block_tree.specs.Numbered.{block_at}
 use Rattle.rank_world.specs.Holding.{cell_array}
-use Rattle.step_advect.specs.Fluxed.{AreSidesWithin, Flow, IsFluxed}
-use Rattle.step_advect.specs.Lifts.{IsFlowOf, is_at_high_side, is_at_low_side}
+use Rattle.step_advect.specs.Fluxed.{AreSidesWithin}
 use Rattle.amr_engine.specs.Flowing.{AreFluxes}
 use Rattle.amr_engine.proofs.Blocks.{size_by}
-use Rattle.amr_engine.proofs.Flown.{fluxes_here, leaf_flowed, leaf_fluxes, leaf_sides, speed_keeps, speed_small}
+use Rattle.amr_engine.proofs.Flown.{fluxes_here, leaf_flowed, leaf_sides}
 use Rattle.amr_engine.proofs.flowing.flow_axis.Goals as goal
 
-pub face_fluxes-requires : goal.face_fluxes-requires
-face_fluxes-requires g c =
+pub flux_cells-requires : goal.flux_cells-requires
+flux_cells-requires g c =
     let n = g.row.N in
     let e = g.row.G in
     let w = c.args.world.now in
     let grid = w.told.grid in
     let a = c.args.axis in
-    let b = c.at-block.result in
-    let v = c.speed_along-speed.result in
+    let speeds = three c.args.speeds in
     let valid : Valid grid = subst Valid c.tree-tree.ensures (known c.tree-tree.result.now).valid in
-    let inside = c.at-block.ensures.inside in
-    let domain : InDomain grid.shape b = subst (λ (h : Grid). InDomain h.shape b) c.tree-tree.ensures inside in
-    let keeps : unsigned_abs v * 2 ^ b.level ≤ 2 ^ 20 =
-    subst (λ u. unsigned_abs u * 2 ^ b.level ≤ 2 ^ 20) (sym c.speed_along-speed.ensures) (speed_keeps grid.shape (three c.args.speeds) a b.level c.requires.ready.courant domain.level) in
-    let cells : c.new-cells.result ≡ cell_array w c.args.v c.args.node = c.new-cells.ensures ∙ c.beside-out.ensures.reads.gives_a in
-    let max = valid.shape.max in
-    let level = domain.level in (
-      omega arith,
-      (
-        omega arith,
-        (
-          subst (λ u. unsigned_abs u * 2 ^ b.level ≤ 2 ^ 20) (sym (kept v (2 ^ 20) (speed_small b.level v keeps) (omega arith))) keeps,
-          (
-            subst (λ (xs : List ℤ). AreSidesWithin (2 ^ 56) n e a (number_at (cell_extents n e) xs)) (sym cells) (leaf_sides n e w c.args.v c.args.node (three c.args.speeds) a valid c.requires.leaf c.requires.ready),
-            c.beside-out.ensures.reads.whole,
-          ),
-        ),
-      ),
-    )
+    let shape = c.shape-shape.ensures.value ∙ ap (λ (h : Grid). h.shape) c.tree-tree.ensures in
+    let size = size_by n e grid.shape valid.shape c.requires.ready.fit.sizes in
+    let inside : InDomain c.shape-shape.result c.at-block.result = subst (λ (s : Shape). InDomain s c.at-block.result) (sym c.shape-shape.ensures.value) c.at-block.ensures.inside in
+    let courant : keeps_courant c.shape-shape.result speeds ≡ true = subst (λ (s : Shape). keeps_courant s speeds ≡ true) (sym shape) c.requires.ready.courant in
+    let sides = leaf_sides n e w c.args.v c.args.node speeds a valid c.requires.leaf c.requires.ready in
+    let lent = c.beside-out.ensures.reads in
+    let small = subst (λ (xs : List ℤ). AreSidesWithin (2 ^ 56) n e a (number_at (cell_extents n e) xs)) (sym lent.gives_a) sides in
+    record { size = size; shape = c.shape-shape.ensures.limits; inside = inside; cells = ap length lent.gives_a ∙ lent.sizes 0 (omega arith); speeds = c.requires.speeds; courant = courant; small = small; out = lent.whole }
 
 pub returns : goal.returns
 returns g c =
@@ -57,31 +41,16 @@ returns g c =
     let w = c.args.world.now in
     let grid = w.told.grid in
     let a = c.args.axis in
-    let b = c.at-block.result in
-    let v = c.speed_along-speed.result in
     let speeds = three c.args.speeds in
-    let ys = c.face_fluxes.new.out in
-    let old = c.beside-out.result.out.now in
+    let ys = c.flux_cells.new.out in
     let xs = cell_array w c.args.v c.args.node in
     let valid : Valid grid = subst Valid c.tree-tree.ensures (known c.tree-tree.result.now).valid in
-    let domain : InDomain grid.shape b = subst (λ (h : Grid). InDomain h.shape b) c.tree-tree.ensures c.at-block.ensures.inside in
-    let keeps : unsigned_abs v * 2 ^ b.level ≤ 2 ^ 20 =
-    subst (λ u. unsigned_abs u * 2 ^ b.level ≤ 2 ^ 20) (sym c.speed_along-speed.ensures) (speed_keeps grid.shape speeds a b.level c.requires.ready.courant domain.level) in
     let shape = c.shape-shape.ensures.value ∙ ap (λ (h : Grid). h.shape) c.tree-tree.ensures in
-    let flow : Flow = record { level = b.level; speed = to_z w64 (of_z w64 v); closed_low = c.is_closed_low-closed_low.result; closed_high = c.is_closed_high-closed_high.result } in
-    let is : IsFlowOf grid.shape speeds a b flow = record {
-      level = refl;
-      speed_of = kept v (2 ^ 20) (speed_small b.level v keeps) (omega arith) ∙ c.speed_along-speed.ensures;
-      closed_low = c.is_closed_low-closed_low.ensures ∙ ap (λ (s : Shape). is_at_low_side a b && is_closed_kind (side_kind s.sides (side_index a))) shape;
-      closed_high = c.is_closed_high-closed_high.ensures ∙ ap (λ (s : Shape). is_at_high_side s a b && is_closed_kind (side_kind s.sides (suc (side_index a)))) shape;
-    } in
-    let cells : c.new-cells.result ≡ xs = c.new-cells.ensures ∙ c.beside-out.ensures.reads.gives_a in
-    let sides = leaf_sides n e w c.args.v c.args.node speeds a valid c.requires.leaf c.requires.ready in
-    let fluxed : IsFluxed n e a flow xs old ys = subst (λ (ks : List ℤ). IsFluxed n e a flow ks old ys) cells c.face_fluxes.ensures.fluxes in
-    let there : AreFluxes grid speeds a b xs ys = leaf_fluxes grid speeds a b flow xs old ys valid.shape domain is n e c.requires.ready.fit.sizes sides fluxed
-    (λ most small. c.face_fluxes.ensures.size most (subst (λ (ks : List ℤ). AreSidesWithin most n e a (number_at (cell_extents n e) ks)) (sym cells) small)) in
-    let fluxes = subst (λ d. AreFluxes grid speeds a d xs ys) (c.at-block.ensures.value ∙ ap (λ h. block_at h c.args.node) c.tree-tree.ensures) there in
-    let long : length ys ≡ var_length n e (FaceWork a) = c.face_fluxes.ensures.fluxes.size ∙ c.beside-out.ensures.reads.whole in
+    let block = c.at-block.ensures.value ∙ ap (λ h. block_at h c.args.node) c.tree-tree.ensures in
+    let fluxes : AreFluxes grid speeds a (block_at grid c.args.node) xs ys =
+    subst (λ d. AreFluxes grid speeds a d xs ys) block
+    (subst (λ (ks : List ℤ). AreFluxes grid speeds a c.at-block.result ks ys) c.beside-out.ensures.reads.gives_a (c.flux_cells.ensures.fluxes grid shape c.requires.ready.fit.sizes)) in
+    let long : length ys ≡ var_length n e (FaceWork a) = c.flux_cells.ensures.size ∙ c.beside-out.ensures.reads.whole in
     let size = size_by n e grid.shape valid.shape c.requires.ready.fit.sizes in
     record {
       flowed = leaf_flowed w c.args.v c.args.node speeds a ys n e c.requires.ready c.requires.leaf size long fluxes;
