@@ -59,7 +59,7 @@ face_of_high s f c canonical high = elim (cases_lt (on f.axis (face_numbers f)) 
         absurd cc
     | inr ends ↦
         let none : high_cell s f ≡ None =
-            ap (λ b. moved f.axis (above b (extent s f.axis f.level) (on f.axis (face_numbers f))) (face_numbers f)) ends ∙ ap (λ o. moved f.axis o (face_numbers f)) (above_out (extent s f.axis f.level) (on f.axis (face_numbers f)) past) in
+        ap (λ b. moved f.axis (above b (extent s f.axis f.level) (on f.axis (face_numbers f))) (face_numbers f)) ends ∙ ap (λ o. moved f.axis o (face_numbers f)) (above_out (extent s f.axis f.level) (on f.axis (face_numbers f)) past) in
         absurd cc
   ]
 ]
@@ -73,9 +73,9 @@ face_of_low s f c wide canonical low = by_position (is_periodic s f.axis) (on f.
     next_is : (r : ℕ) → c ≡ with f.axis r (face_numbers f) → wrapped (is_periodic s f.axis) (extent s f.axis f.level) (suc r) ≡ on f.axis (face_numbers f) → face_of f.axis (after s f.axis c) ≡ f
     next_is r is same =
         let moved_on : after s f.axis c ≡ with f.axis (wrapped (is_periodic s f.axis) (extent s f.axis f.level) (suc r)) (face_numbers f) =
-            ap (after s f.axis) is
-            ∙ ap₂ (λ l p. with f.axis (wrapped (is_periodic s f.axis) (extent s f.axis l) (suc p)) (with f.axis r (face_numbers f))) (with_level f.axis r (face_numbers f)) (on_with f.axis r (face_numbers f))
-            ∙ with_with f.axis (wrapped (is_periodic s f.axis) (extent s f.axis f.level) (suc r)) r (face_numbers f) in
+        ap (after s f.axis) is
+        ∙ ap₂ (λ l p. with f.axis (wrapped (is_periodic s f.axis) (extent s f.axis l) (suc p)) (with f.axis r (face_numbers f))) (with_level f.axis r (face_numbers f)) (on_with f.axis r (face_numbers f))
+        ∙ with_with f.axis (wrapped (is_periodic s f.axis) (extent s f.axis f.level) (suc r)) r (face_numbers f) in
         ap (face_of f.axis) (moved_on ∙ ap (λ p. with f.axis p (face_numbers f)) same ∙ with_own f.axis (face_numbers f))
 
     some_is : (r : ℕ) → Some c ≡ moved f.axis (Some r) (face_numbers f) → c ≡ with f.axis r (face_numbers f)
@@ -91,7 +91,7 @@ face_of_low s f c wide canonical low = by_position (is_periodic s f.axis) (on f.
       | inl inside ↦ next_is r (some_is r (sym is)) (wrapped_before (is_periodic s f.axis) (extent s f.axis f.level) r inside ∙ sym at)
       | inr past ↦
           let off : (not (is_periodic s f.axis) || nat_lt (on f.axis (face_numbers f)) (extent s f.axis f.level)) ≡ false =
-              ap₂ (λ b p. not b || nat_lt p (extent s f.axis f.level)) periodic at ∙ le-ltb (suc r) (extent s f.axis f.level) past in
+          ap₂ (λ b p. not b || nat_lt p (extent s f.axis f.level)) periodic at ∙ le-ltb (suc r) (extent s f.axis f.level) past in
           absurd cc
     ]
     by_position false (suc r) periodic at is =

@@ -3,6 +3,7 @@
 ghost use Rattle.amr_num.specs.declared.FaceAt.{FaceAt as Faces};
 ghost use Rattle.block_tree.specs.GridOf.{grid_of};
 ghost use Rattle.block_tree.specs.Numbered.{block_at};
+ghost use Rattle.mesh_model.specs.Fields.ArrayPlaces.{extents_of, face_extents};
 ghost use Rattle.mesh_model.specs.Fields.Ranks.{IsFit};
 ghost use Rattle.mesh_model.specs.Geometry.Blocks.{InDomain};
 ghost use Rattle.mesh_model.specs.Geometry.Canonical.{canonical_on};
@@ -11,8 +12,9 @@ ghost use Rattle.mesh_model.specs.Geometry.Limits.{IsShape};
 ghost use Rattle.mesh_model.specs.Geometry.Places.{in_block};
 ghost use Rattle.rank_world.specs.FaceRange as above;
 ghost use Rattle.rank_world.specs.FaceRange.{CountLeafFaces, HasAxis, HasField};
+ghost use Rattle.rank_world.specs.Holding as holding;
 ghost use Rattle.rank_world.specs.Holding.{IsLeafNode};
-ghost use Rattle.std.specs.Prelude.{◌≡◌, ◌+◌, ◌*◌, ◌<◌, ◌≤◌, ℤ};
+ghost use Rattle.std.specs.Prelude.{◌≡◌, ℕ, ◌+◌, ◌*◌, ◌<◌, ◌≤◌, ℤ};
 
 use crate::world::World;
 use amr_num::{Axis, BlockAt, CellAt, FaceAt};
@@ -27,6 +29,18 @@ pub struct FaceAbove {
     pub face: FaceAt,
     /// The number.
     pub value: i64,
+}
+
+/// The array of a block's faces normal to an axis: its work faces, or those of the face variable.
+pub fn face_var(work: bool, axis: Axis) -> Var
+    ensures value { result ≡ holding.face_var work axis }
+    ensures extents { (n g : ℕ) → extents_of n g result ≡ face_extents n g axis }
+{
+    if work {
+        Var::FaceWork(axis)
+    } else {
+        Var::Face(axis)
+    }
 }
 
 /// The coordinate on an axis of a block's face.
