@@ -1,8 +1,8 @@
 -- Worlds whose faces are small numbers: new ones, and those in which small numbers are put.
-use Rattle.std.proofs.Common.{◌≡◌, ℕ, Bool, ◌+◌, ◌^◌, List, length, ℤ}
+use Rattle.std.proofs.Common.{◌≡◌, ℕ, Bool, true, false, arith, ◌+◌, ◌^◌, List, length, ℤ}
 use Rattle.amr_num.specs.declared.Axis.{Axis}
 use Rattle.mesh_model.specs.Fields.ArrayPlaces.{IsSize, face_extents, place_in}
-use Rattle.mesh_model.specs.Fields.Arrays.{HasVar, var_length}
+use Rattle.mesh_model.specs.Fields.Arrays.{Counts, HasVar, var_length}
 use Rattle.mesh_model.specs.Fields.Ranks.{AreZero, IsFit, WorldState, rank_at, world_with}
 use Rattle.block_tree.specs.Numbered.{IsNode}
 use Rattle.rank_world.specs.Holding.{face_var}
@@ -10,6 +10,11 @@ use Rattle.rank_world.specs.Puts.{IsPut}
 use Rattle.rank_world.proofs.Puts as puts
 use Rattle.flux_conserve.specs.FaceArrays.{FacesWithin, stored}
 use Rattle.flux_conserve.proofs.Worlds.{used_leaf}
+
+-- where there is a face variable both kinds of arrays of faces are there
+pub has_one : (work : Bool) (a : Axis) (n : Counts) → n.faces ≡ 1 → HasVar n (face_var work a)
+has_one true a n one = tt
+has_one false a n one = omega arith
 
 pub zeros_small : (work : Bool) (n g : ℕ) (w : WorldState) → ((a : Axis) → HasVar w.told.counts (face_var work a)) → IsFit n g w → AreZero n g (rank_at w 0).own.values → FacesWithin work w (2 ^ 56)
 zeros_small work n g w declared fit zero node a used = record {
