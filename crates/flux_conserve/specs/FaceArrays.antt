@@ -14,16 +14,14 @@ use Rattle.mesh_model.specs.Tree.Kinds.{Grid}
 use Rattle.block_tree.specs.Numbered.{IsNumberOf, block_at}
 pub use Rattle.block_tree.specs.Beside.{IsFinerNode}
 use Rattle.rank_world.specs.Holding.{IsLeafNode, face_var}
+pub use Rattle.rank_world.specs.Holding.{stored}
 use Rattle.flux_conserve.specs.Jumps.{BlockFaces, IsCalm, IsFacePlace, child_beside, finer_beside, four_finer, is_at_jump, side_position, spot}
 
 -- the number of an array of faces at a place of the block's faces
 unfoldable pub face_at : ℕ → ℕ → Axis → List ℤ → ℕ → ℕ → ℕ → ℤ
 face_at n g a xs p s t = number_at (face_extents n g a) xs (g + (spot a p s t).x) (g + (spot a p s t).y) (g + (spot a p s t).z)
 
--- the array of a node's faces normal to an axis, and its numbers
-abbrev pub stored : Bool → WorldState → Axis → ℕ → List ℤ
-stored work w a node = array_in (rank_at w 0).own.values (face_var work a) node
-
+-- the numbers of a node's array of faces normal to an axis
 abbrev pub stored_at : Bool → WorldState → Axis → ℕ → ℕ → ℕ → ℕ → ℤ
 stored_at work w a node p s t = face_at w.told.grid.shape.n w.told.grid.shape.g a (stored work w a node) p s t
 

@@ -1,5 +1,5 @@
 -- The numbers on faces that a world's leaves have are those that its leaves hold.
-use Rattle.std.proofs.Common.{◌≡◌, ℕ, zero, suc, ◌+◌, ◌-◌, ◌*◌, ◌/◌, ◌%◌, ◌<◌, Bool, true, false, ◌&&◌, ◌||◌, ◌==◌, not, ℤ, pos, refl, sym, ap, ap₂, subst, ◌∙◌, arith, inl, inr, Option, Some, None}
+use Rattle.std.proofs.Common.{◌≡◌, ℕ, zero, suc, ◌+◌, ◌-◌, ◌*◌, ◌/◌, ◌%◌, ◌<◌, Bool, true, false, ◌&&◌, ◌||◌, ◌==◌, not, ℤ, pos, refl, sym, ap, ap₂, ◌∙◌, arith, inl, inr, Option, Some, None}
 use Rattle.std.specs.Prelude.{if◌then◌else◌, nat_lt}
 use Rattle.std.proofs.lemmas.Bool.{and_parts, cases_Bool, cases_lt, le-ltb, lt-ltb}
 use Rattle.amr_num.specs.declared.Axis.{Axis}
@@ -10,18 +10,18 @@ use Rattle.mesh_model.specs.declared.geometry.Shape.{Shape}
 use Rattle.mesh_model.specs.Geometry.Canonical.{canonical_on, is_canonical, is_canonical_at}
 use Rattle.mesh_model.specs.Geometry.Coordinates.{Inside, above, after, below, extent, face_numbers, face_of, high_cell, is_periodic, low_cell, moved, on, step, with, wrapped}
 use Rattle.mesh_model.specs.Geometry.Places.{in_block, longer_on}
-use Rattle.mesh_model.specs.Tree.Kinds.{Grid, block_of, holds, is_leaf, is_leaf_block, is_leaf_face}
+use Rattle.mesh_model.specs.Tree.Kinds.{Grid, block_of, holds, is_leaf, is_leaf_face}
 use Rattle.mesh_model.specs.Tree.Order.{Sorted}
 use Rattle.mesh_model.specs.Tree.ValidGrid.{Valid}
 use Rattle.mesh_model.specs.Fields.Plain.{on_faces}
 use Rattle.mesh_model.specs.Fields.Ranks.{WorldState}
 use Rattle.mesh_model.specs.Fields.Views.{face_view}
 use Rattle.mesh_model.proofs.FieldLemmas.Beside.{above_in, above_out, wrapped_before, wrapped_end, wrapped_open}
-use Rattle.mesh_model.proofs.FieldLemmas.CellKinds.{Kinds, kinds_of_tiles, wide_of}
+use Rattle.mesh_model.proofs.FieldLemmas.CellKinds.{kinds_of_tiles, wide_of}
 use Rattle.mesh_model.proofs.FieldLemmas.LeafFaces.{view_of_leaf_face}
 use Rattle.mesh_model.proofs.FieldLemmas.ValidGrid.{leaf_inside}
 use Rattle.mesh_model.proofs.GeometryLemmas.OnAxes.{on_with, with_level, with_own, with_with}
-use Rattle.mesh_model.proofs.GeometryLemmas.ShapeLimits.{cells_some, extent_some}
+use Rattle.mesh_model.proofs.GeometryLemmas.ShapeLimits.{cells_some}
 use Rattle.rank_world.specs.Contents.{at_cell, beside_cell, face_in, faces_of, node_of}
 use Rattle.rank_world.specs.Holding.{LeavesHoldFaces}
 use Rattle.rank_world.proofs.Contents.{along, leaf_of_number}

@@ -70,6 +70,10 @@ abbrev pub face_var : Bool → Axis → Var
 face_var true a = FaceWork a
 face_var false a = Face a
 
+-- such an array of a node
+abbrev pub stored : Bool → WorldState → Axis → ℕ → List ℤ
+stored work w a node = array_in (rank_at w 0).own.values (face_var work a) node
+
 -- the numbers of one cell variable may be others
 pub record OnlyCells (old new : WorldState) (v : ℕ) : Type 0 where
   pub told : new.told ≡ old.told
