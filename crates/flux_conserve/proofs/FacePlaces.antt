@@ -9,7 +9,7 @@ use Rattle.mesh_model.specs.Fields.ArrayPlaces.{Extents, face_extents, place_in}
 use Rattle.mesh_model.proofs.FieldLemmas.BlockPlaces.{same_x, same_y, same_z}
 use Rattle.flux_conserve.specs.Jumps.{IsFacePlace, spot}
 use Rattle.flux_conserve.specs.Sums.{IsFaceSet, four_at}
-use Rattle.flux_conserve.specs.Work.{face_at}
+use Rattle.flux_conserve.specs.FaceArrays.{face_at}
 
 -- where a face stands
 abbrev pub stands_at : ℕ → ℕ → Axis → ℕ → ℕ → ℕ → ℕ

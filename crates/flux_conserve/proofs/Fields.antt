@@ -11,15 +11,17 @@ use Rattle.amr_num.specs.declared.CellAt.{CellAt}
 use Rattle.amr_num.specs.declared.FaceAt.{FaceAt}
 use Rattle.mesh_model.specs.declared.geometry.Shape.{Shape}
 use Rattle.mesh_model.specs.Fields.Advect.{Speeds, flux, leaf_flux}
-use Rattle.mesh_model.specs.Fields.Views.{face_down}
+use Rattle.mesh_model.specs.Fields.ArrayPlaces.{HoldsFaceField, HoldsFaces}
+use Rattle.mesh_model.specs.Fields.Views.{face_down, face_view}
 use Rattle.mesh_model.specs.Geometry.Blocks.{InDomain, child_block}
 use Rattle.mesh_model.specs.Geometry.Coordinates.{face_of, sub_face}
 use Rattle.mesh_model.specs.Geometry.Canonical.{canonical_on}
 use Rattle.mesh_model.specs.Geometry.Places.{in_block, longer_on}
-use Rattle.mesh_model.specs.Tree.Kinds.{Grid, is_leaf_block, is_split_block, is_split_face}
+use Rattle.mesh_model.specs.Tree.Kinds.{Grid, is_leaf_block, is_leaf_face, is_split_block, is_split_face}
 use Rattle.mesh_model.specs.Tree.ValidGrid.{Valid}
-use Rattle.mesh_model.proofs.FieldLemmas.CellKinds.{wide_of}
+use Rattle.mesh_model.proofs.FieldLemmas.CellKinds.{kinds_of_tiles, wide_of}
 use Rattle.mesh_model.proofs.FieldLemmas.FaceSums as faces
+use Rattle.mesh_model.proofs.FieldLemmas.LeafFaces.{Either, Seen, face_adds, view_of_leaf_face}
 use Rattle.mesh_model.proofs.FieldLemmas.ValidGrid.{deep_face, tree}
 use Rattle.mesh_model.proofs.GeometryLemmas.Halves.{pair_inside, rest_below}
 use Rattle.mesh_model.proofs.GeometryLemmas.ShapeLimits.{cells_some}
@@ -27,6 +29,7 @@ use Rattle.mesh_model.proofs.TreeLemmas.Tests.{refuted}
 use Rattle.mesh_model.proofs.TreeLemmas.Levels.{is_child}
 use Rattle.mesh_model.proofs.TreeLemmas.Tiling.{child_is_no_leaf, leaf_says}
 use Rattle.block_tree.proofs.Leaves.{split_leaf}
+use Rattle.rank_world.proofs.FaceBlocks.{leaf_face_seen}
 use Rattle.flux_conserve.specs.Jumps.{BlockFaces, IsCalm, IsFacePlace, block_beside, child_beside, corrected, face_name, finer_beside, four_finer, if_split, is_at_jump, is_no_leaf, jumped, jumps_at, jumps_on, octant_on, or_four, quarter_at, quarter_sum, side_half, side_position, spot}
 use Rattle.block_tree.proofs.SideFaces.{back_again, calm_child, calm_face, child_leaf, finer_name, split_face}
 
@@ -226,6 +229,47 @@ module _ (g : Grid) (valid : Valid g) (a : Axis) (high : Bool) (b d : BlockAt) (
       beside_jump g (child_beside a high q d) a (not high) c (back_again g valid a high b d (inside g valid a b leaf) (whole g valid a b leaf) finer q)
       (child_is_no_leaf g c b (is_child b (octant_on a (side_half high) q)) (whole g valid a b leaf))
 
+-- ---- the views of a field on the faces of a leaf
+
+module _ (g : Grid) (valid : Valid g) (a : Axis) (b : BlockAt) (leaf : is_leaf_block g b ≡ true) (p s t : ℕ) (place : IsFacePlace g.shape.n p s t) where
+  -- the four finer faces at a jump have no split side
+  sub_calm : (jump : IsJump g a b p) (r : ℕ) → is_split_face g (sub_face (face_name g.shape a b p s t) r) ≡ false
+  sub_calm jump r =
+      let q = quarter_at g.shape.n s t in
+      ap (is_split_face g) (sym (finer_is g valid a b leaf p s t place jump r))
+      ∙ calm_is g valid a (child_beside a jump.high q jump.finer) (near_leaf g valid a jump.high b jump.finer leaf jump.there q) (side_position g.shape.n (not jump.high)) _ _
+      (finer_place g.shape.n s t r (not jump.high) valid.shape.cells) (near_calm g valid a jump.high b jump.finer leaf jump.there q)
+
+  seen : Seen g (face_name g.shape a b p s t)
+  unfolding face_name
+  seen = at_spot (λ i j k. Seen g (face_of a (canonical_on g.shape a (in_block g.shape.n b i j k)))) a g.shape.n (leaf_face_seen g valid a b leaf) p s t place
+
+  -- a face at which no finer leaves stand is a leaf face
+  pub calm_leaf_face : IsCalm g a b p → is_leaf_face g (face_name g.shape a b p s t) ≡ true
+  unfolding Either
+  calm_leaf_face calm = elim seen.kind [
+    | inl split ↦ (let none = calm_is g valid a b leaf p s t place calm in cc)
+    | inr is ↦ is
+  ]
+
+  -- the view of a leaf face is its number, and that of a face beside finer leaves the sum of those of the four finer faces
+  pub view_jumped : (field : FaceAt → ℤ) → face_view g field (face_name g.shape a b p s t) ≡ jumped g field (face_name g.shape a b p s t)
+  view_jumped field =
+      let f = face_name g.shape a b p s t in
+      let kinds = kinds_of_tiles g valid.tiles valid.shape in
+      let wide = wide_of g.shape valid.shape in
+      elim (face_kind g a b (cells_some valid.shape) p) [
+        | inl calm ↦ (
+            let whole = calm_is g valid a b leaf p s t place calm in
+            view_of_leaf_face g kinds valid.shape wide field f (calm_leaf_face calm) ∙ ap (λ (u : Bool). if u then sum_below 4 (λ r. field (sub_face f r)) else field f) (sym whole))
+        | inr jump ↦ (
+            let split = jump_is g valid a b leaf p s t place jump in
+            face_adds g kinds valid.shape wide field f
+            ∙ sum_below_same 4 (λ r. face_view g field (sub_face f r)) (λ r. field (sub_face f r))
+            (λ r h. view_of_leaf_face g kinds valid.shape wide field (sub_face f r) (faces.leaf_sub_face g kinds.tree wide f r split (sub_calm jump r)))
+            ∙ ap (λ (u : Bool). if u then sum_below 4 (λ r. field (sub_face f r)) else field f) (sym split))
+      ]
+
 module _ (g : Grid) (valid : Valid g) (content : CellAt → ℤ) (n : Speeds) where
   flux_whole : (f : FaceAt) → is_split_face g f ≡ false → flux g content n f ≡ leaf_flux g content n f
   flux_whole f whole = faces.down_whole g (tree g valid) (wide_of g.shape valid.shape) (leaf_flux g content n) (10 - f.level) f whole
@@ -240,13 +284,6 @@ module _ (g : Grid) (valid : Valid g) (content : CellAt → ℤ) (n : Speeds) wh
       (λ r h. faces.down_whole g (tree g valid) wide (leaf_flux g content n) (9 - f.level) (sub_face f r) (calm r h))
 
   module _ (a : Axis) (b : BlockAt) (leaf : is_leaf_block g b ≡ true) (p s t : ℕ) (place : IsFacePlace g.shape.n p s t) where
-    sub_calm : (jump : IsJump g a b p) (r : ℕ) → is_split_face g (sub_face (face g valid a b leaf p s t place) r) ≡ false
-    sub_calm jump r =
-        let q = quarter_at g.shape.n s t in
-        ap (is_split_face g) (sym (finer_is g valid a b leaf p s t place jump r))
-        ∙ calm_is g valid a (child_beside a jump.high q jump.finer) (near_leaf g valid a jump.high b jump.finer leaf jump.there q) (side_position g.shape.n (not jump.high)) _ _
-        (finer_place g.shape.n s t r (not jump.high) valid.shape.cells) (near_calm g valid a jump.high b jump.finer leaf jump.there q)
-
     -- the flux through a face of a leaf is what its own step gives, jumped
     pub flux_jumped : flux g content n (face_name g.shape a b p s t) ≡ jumped g (leaf_flux g content n) (face_name g.shape a b p s t)
     flux_jumped =
@@ -258,12 +295,23 @@ module _ (g : Grid) (valid : Valid g) (content : CellAt → ℤ) (n : Speeds) wh
               flux_whole f whole ∙ ap (λ (u : Bool). if u then sum_below 4 (λ r. own (sub_face f r)) else own f) (sym whole))
           | inr jump ↦ (
               let split = jump_is g valid a b leaf p s t place jump in
-              flux_split f split (λ r h. sub_calm jump r) ∙ ap (λ (u : Bool). if u then sum_below 4 (λ r. own (sub_face f r)) else own f) (sym split))
+              flux_split f split (λ r h. sub_calm g valid a b leaf p s t place jump r) ∙ ap (λ (u : Bool). if u then sum_below 4 (λ r. own (sub_face f r)) else own f) (sym split))
         ]
 
     -- and where no finer leaves stand, just that
     pub flux_own : IsCalm g a b p → flux g content n (face_name g.shape a b p s t) ≡ leaf_flux g content n (face_name g.shape a b p s t)
     flux_own calm = flux_whole (face_name g.shape a b p s t) (calm_is g valid a b leaf p s t place calm)
+
+-- faces of a leaf that hold a field, jumped, hold its views
+pub views_held : (g : Grid) (field : FaceAt → ℤ) (b : BlockAt) (a : Axis) (numbers : ℕ → ℕ → ℕ → ℤ) → Valid g → is_leaf_block g b ≡ true →
+    HoldsFaceField g (jumped g field) a b numbers → HoldsFaces g field a b numbers
+unfolding face_name
+views_held g field b a numbers valid leaf holds = record {
+  at = λ i j k hi hj hk.
+      holds.at i j k hi hj hk
+      ∙ sym (by_spot (λ i j k. let f = face_of a (canonical_on g.shape a (in_block g.shape.n b i j k)) in face_view g field f ≡ jumped g field f) a g.shape.n
+      (λ p s t place. view_jumped g valid a b leaf p s t place field) i j k hi hj hk);
+}
 
 -- so it is through all faces of a leaf at no jump
 pub fluxes_own : (g : Grid) (content : CellAt → ℤ) (n : Speeds) (b : BlockAt) (a : Axis) → Valid g → is_leaf_block g b ≡ true → is_at_jump g b ≡ false → (i j k : ℕ) →

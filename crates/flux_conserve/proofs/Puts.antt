@@ -1,26 +1,35 @@
--- Worlds whose work faces are small numbers: new ones, and those in which small numbers are put.
-use Rattle.std.proofs.Common.{◌≡◌, ℕ, ◌+◌, ◌^◌, List, length, ℤ}
+-- Worlds whose faces are small numbers: new ones, and those in which small numbers are put.
+use Rattle.std.proofs.Common.{◌≡◌, ℕ, Bool, true, false, arith, ◌+◌, ◌^◌, List, length, ℤ}
 use Rattle.amr_num.specs.declared.Axis.{Axis}
-use Rattle.mesh_model.specs.declared.fields.values.Var.TheVariants.{FaceWork}
 use Rattle.mesh_model.specs.Fields.ArrayPlaces.{IsSize, face_extents, place_in}
-use Rattle.mesh_model.specs.Fields.Arrays.{var_length}
+use Rattle.mesh_model.specs.Fields.Arrays.{Counts, HasVar, var_length}
 use Rattle.mesh_model.specs.Fields.Ranks.{AreZero, IsFit, WorldState, rank_at, world_with}
 use Rattle.block_tree.specs.Numbered.{IsNode}
+use Rattle.rank_world.specs.Holding.{face_var}
 use Rattle.rank_world.specs.Puts.{IsPut}
 use Rattle.rank_world.proofs.Puts as puts
-use Rattle.flux_conserve.specs.Work.{WorkWithin, work_array}
+use Rattle.flux_conserve.specs.FaceArrays.{FacesWithin, stored}
+use Rattle.flux_conserve.proofs.Worlds.{used_leaf}
 
-pub zeros_small : (n g : ℕ) (w : WorldState) → IsFit n g w → AreZero n g (rank_at w 0).own.values → WorkWithin w (2 ^ 56)
-zeros_small n g w fit zero node a leaf = record {
+-- where there is a face variable both kinds of arrays of faces are there
+pub has_one : (work : Bool) (a : Axis) (n : Counts) → n.faces ≡ 1 → HasVar n (face_var work a)
+has_one true a n one = tt
+has_one false a n one = omega arith
+
+pub zeros_small : (work : Bool) (n g : ℕ) (w : WorldState) → ((a : Axis) → HasVar w.told.counts (face_var work a)) → IsFit n g w → AreZero n g (rank_at w 0).own.values → FacesWithin work w (2 ^ 56)
+zeros_small work n g w declared fit zero node a used = record {
   at = λ i j k hi hj hk.
       let s = w.told.grid.shape in
-      puts.zero_small n g (2 ^ 56) w (FaceWork a) node (place_in (face_extents s.n s.g a) (s.g + i) (s.g + j) (s.g + k)) fit zero tt leaf.own.there;
+      let leaf = used_leaf work w.told.grid node used in
+      puts.zero_small n g (2 ^ 56) w (face_var work a) node (place_in (face_extents s.n s.g a) (s.g + i) (s.g + j) (s.g + k)) fit zero (declared a) leaf.there;
 }
 
-pub put_small : (n g : ℕ) (w : WorldState) (a : Axis) (node : ℕ) (ys : List ℤ) → IsSize n g → IsFit n g w → IsNode w.told.grid node → length ys ≡ var_length n g (FaceWork a) →
-    IsPut (2 ^ 56) (work_array w a node) ys → WorkWithin w (2 ^ 56) → WorkWithin (world_with w 0 (FaceWork a) node ys) (2 ^ 56)
-put_small n g w a node ys size fit there long put before k d leaf = record {
+-- where a small number is put into the array of some faces, those of the same kind and of the other one stay small
+pub put_small : (work other : Bool) (n g : ℕ) (w : WorldState) (a : Axis) (node : ℕ) (ys : List ℤ) → IsSize n g → IsFit n g w → HasVar w.told.counts (face_var other a) → IsNode w.told.grid node →
+    length ys ≡ var_length n g (face_var other a) → IsPut (2 ^ 56) (stored other w a node) ys → FacesWithin work w (2 ^ 56) → FacesWithin work (world_with w 0 (face_var other a) node ys) (2 ^ 56)
+put_small work other n g w a node ys size fit declared there long put before k d leaf = record {
   at = λ x y z hx hy hz.
       let s = w.told.grid.shape in
-      puts.put_small n g (2 ^ 56) w (FaceWork a) node ys size fit tt there long put (FaceWork d) k (place_in (face_extents s.n s.g d) (s.g + x) (s.g + y) (s.g + z)) ((before k d leaf).at x y z hx hy hz);
+      puts.put_small n g (2 ^ 56) w (face_var other a) node ys size fit declared there long put (face_var work d) k (place_in (face_extents s.n s.g d) (s.g + x) (s.g + y) (s.g + z))
+      ((before k d leaf).at x y z hx hy hz);
 }

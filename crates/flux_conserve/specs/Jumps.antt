@@ -1,16 +1,11 @@
 -- Jumps of level at the sides of blocks, and what the coarse faces there take of the finer ones.
-use Rattle.std.specs.Prelude.{◌≡◌, ℕ, suc, ◌+◌, ◌*◌, ◌/◌, ◌%◌, ◌^◌, ◌<◌, ◌≤◌, ◌==◌, Bool, true, false, not, ◌||◌, if◌then◌else◌, Option, Some, None, ℤ}
+use Rattle.std.specs.Prelude.{ℕ, ◌+◌, ◌*◌, ◌/◌, ◌%◌, ◌==◌, Bool, true, false, not, ◌||◌, if◌then◌else◌, Option, Some, None, ℤ}
 use Rattle.amr_num.specs.declared.Axis.{Axis}
 use Rattle.amr_num.specs.declared.Axis.TheVariants.{X, Y, Z}
 use Rattle.amr_num.specs.declared.BlockAt.{BlockAt}
-use Rattle.amr_num.specs.declared.CellAt.{CellAt}
 use Rattle.amr_num.specs.declared.FaceAt.{FaceAt}
 use Rattle.amr_num.specs.Numbers.{sum_below}
-use Rattle.mesh_model.specs.declared.geometry.Shape.{Shape}
-use Rattle.mesh_model.specs.Geometry.Blocks.{child_block}
-use Rattle.mesh_model.specs.Geometry.Coordinates.{above, below, face_of, is_periodic, roots, sub_face}
-use Rattle.mesh_model.specs.Geometry.Canonical.{canonical_on}
-use Rattle.mesh_model.specs.Geometry.Places.{in_block}
+use Rattle.mesh_model.specs.Geometry.Coordinates.{sub_face}
 use Rattle.mesh_model.specs.Tree.Kinds.{Grid, is_leaf_block, is_split_face}
 pub use Rattle.block_tree.specs.Beside.{beside_on, block_moved, block_with, if_split}
 unfoldable pub use Rattle.block_tree.specs.Beside.{block_beside, finer_beside}

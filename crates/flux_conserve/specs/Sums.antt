@@ -3,7 +3,7 @@ use Rattle.std.specs.Prelude.{◌≡◌, ℕ, ◌+◌, ◌*◌, ◌/◌, ◌%◌
 use Rattle.amr_num.specs.Numbers.{sum_below}
 use Rattle.amr_num.specs.declared.Axis.{Axis}
 use Rattle.flux_conserve.specs.Jumps.{IsFacePlace, quarter_at}
-use Rattle.flux_conserve.specs.Work.{face_at}
+use Rattle.flux_conserve.specs.FaceArrays.{face_at}
 
 -- the sum of the four finer faces at a coarse face
 unfoldable pub four_at : ℕ → ℕ → Axis → List ℤ → ℕ → ℕ → ℕ → ℤ

@@ -1,108 +1,28 @@
--- What the work faces of leaves have.
-use Rattle.std.specs.Prelude.{◌≡◌, ℕ, ◌+◌, ◌<◌, ◌^◌, Bool, not, true, false, Some, List, ℤ}
-use Rattle.amr_num.specs.Numbers.{Within}
+-- What the work faces of leaves at a jump have.
+use Rattle.std.specs.Prelude.{ℕ, true, List, ℤ}
 use Rattle.amr_num.specs.declared.Axis.{Axis}
-use Rattle.amr_num.specs.declared.Axis.TheVariants.{X, Y, Z}
-use Rattle.amr_num.specs.declared.BlockAt.{BlockAt}
 use Rattle.amr_num.specs.declared.FaceAt.{FaceAt}
-use Rattle.mesh_model.specs.declared.fields.values.Var.{Var}
-use Rattle.mesh_model.specs.declared.fields.values.Var.TheVariants.{FaceWork}
-use Rattle.mesh_model.specs.Fields.Arrays.{array_in}
-use Rattle.mesh_model.specs.Fields.ArrayPlaces.{HoldsFaceField, face_extents, number_at}
-use Rattle.mesh_model.specs.Fields.Ranks.{IsFit, OnlyOf, WorldState, rank_at}
-use Rattle.mesh_model.specs.Geometry.Places.{longer_on}
-use Rattle.mesh_model.specs.Tree.Kinds.{Grid, is_leaf_block}
-use Rattle.block_tree.specs.Numbered.{IsNode, IsNumberOf, block_at}
-pub use Rattle.block_tree.specs.Beside.{IsFinerNode}
-use Rattle.rank_world.specs.Holding.{IsLeafNode}
-use Rattle.flux_conserve.specs.Jumps.{BlockFaces, IsCalm, IsFacePlace, child_beside, finer_beside, four_finer, is_at_jump, side_position, spot}
+use Rattle.mesh_model.specs.Fields.Ranks.{WorldState}
+use Rattle.flux_conserve.specs.Jumps.{BlockFaces}
+use Rattle.flux_conserve.specs.FaceArrays.{FacesHave, FacesHold, FacesWithin, OnlyFaces, stored}
+pub use Rattle.flux_conserve.specs.FaceArrays.{HasNoJump, IsJumpNode}
 
--- the number of an array of faces at a place of the block's faces
-unfoldable pub face_at : ℕ → ℕ → Axis → List ℤ → ℕ → ℕ → ℕ → ℤ
-face_at n g a xs p s t = number_at (face_extents n g a) xs (g + (spot a p s t).x) (g + (spot a p s t).y) (g + (spot a p s t).z)
-
--- the array of a node's work faces normal to an axis, and its numbers
+-- the array of a node's work faces normal to an axis
 abbrev pub work_array : WorldState → Axis → ℕ → List ℤ
-work_array w a node = array_in (rank_at w 0).own.values (FaceWork a) node
-
-abbrev pub work_at : WorldState → Axis → ℕ → ℕ → ℕ → ℕ → ℤ
-work_at w a node p s t = face_at w.told.grid.shape.n w.told.grid.shape.g a (work_array w a node) p s t
-
--- a node is a leaf across some side of which the level jumps
-pub record IsJumpNode (g : Grid) (node : ℕ) : Type 0 where
-  pub own : IsLeafNode g node
-  pub jump : is_at_jump g (block_at g node) ≡ true
-
--- no leaf is
-abbrev pub HasNoJump : Grid → Type 0
-HasNoJump g = (node : ℕ) → IsLeafNode g node → is_at_jump g (block_at g node) ≡ false
+work_array w a node = stored true w a node
 
 -- the work faces of each leaf at a jump hold a field, by canonical names
 abbrev pub WorkHolds : WorldState → (FaceAt → ℤ) → Type 0
-WorkHolds w field = (node : ℕ) (a : Axis) → IsJumpNode w.told.grid node →
-    HoldsFaceField w.told.grid field a (block_at w.told.grid node) (number_at (face_extents w.told.grid.shape.n w.told.grid.shape.g a) (work_array w a node))
+WorkHolds w field = FacesHold true w field
 
--- the numbers of a leaf's work faces on the block's faces are at most so great in absolute value
-pub record LeafWithin (w : WorldState) (most : ℕ) (a : Axis) (node : ℕ) : Type 0 where
-  pub at : (i j k : ℕ) → let s = w.told.grid.shape in i < longer_on a X s.n → j < longer_on a Y s.n → k < longer_on a Z s.n →
-      Within most (number_at (face_extents s.n s.g a) (work_array w a node) (s.g + i) (s.g + j) (s.g + k))
-
--- those of each leaf at a jump are
+-- their numbers on the block's faces are at most so great in absolute value
 abbrev pub WorkWithin : WorldState → ℕ → Type 0
-WorkWithin w most = (node : ℕ) (a : Axis) → IsJumpNode w.told.grid node → LeafWithin w most a node
+WorkWithin w most = FacesWithin true w most
 
--- the work faces of each leaf at a jump have these numbers
-pub record WorkHas (w : WorldState) (faces : BlockFaces) : Type 0 where
-  pub at : (node : ℕ) (a : Axis) (p s t : ℕ) → IsJumpNode w.told.grid node → IsFacePlace w.told.grid.shape.n p s t →
-      work_at w a node p s t ≡ faces a (block_at w.told.grid node) p s t
+-- they have these numbers
+abbrev pub WorkHas : WorldState → BlockFaces → Type 0
+WorkHas w faces = FacesHave true w faces
 
 -- arrays may have other numbers where they are work faces of leaves, and all else is as it was
-pub record OnlyWorkFaces (old new : WorldState) : Type 0 where
-  pub told : new.told ≡ old.told
-  pub others : (u : Var) (node : ℕ) → ((a : Axis) → u ≡ FaceWork a → IsLeafNode old.told.grid node → ⊥) →
-      array_in (rank_at new 0).own.values u node ≡ array_in (rank_at old 0).own.values u node
-
--- ---- on the way
-
--- those at which no finer leaves stand do
-pub record CalmHas (w : WorldState) (faces : BlockFaces) : Type 0 where
-  pub at : (node : ℕ) (a : Axis) (p s t : ℕ) → IsJumpNode w.told.grid node → IsFacePlace w.told.grid.shape.n p s t → IsCalm w.told.grid a (block_at w.told.grid node) p →
-      work_at w a node p s t ≡ faces a (block_at w.told.grid node) p s t
-
--- a side of a leaf at which finer leaves stand has their sums
-pub record SideHas (w : WorldState) (faces : BlockFaces) (node : ℕ) (a : Axis) (high : Bool) : Type 0 where
-  pub at : (d : BlockAt) (s t : ℕ) → finer_beside w.told.grid a high (block_at w.told.grid node) ≡ Some d → s < w.told.grid.shape.n → t < w.told.grid.shape.n →
-      work_at w a node (side_position w.told.grid.shape.n high) s t ≡ four_finer w.told.grid.shape.n faces a high d s t
-
--- the numbers are at most 2^56 in absolute value, or 2^58 where finer leaves stand
-pub record IsTame (w : WorldState) : Type 0 where
-  pub calm : (node : ℕ) (a : Axis) (p s t : ℕ) → IsJumpNode w.told.grid node → IsFacePlace w.told.grid.shape.n p s t → IsCalm w.told.grid a (block_at w.told.grid node) p →
-      Within (2 ^ 56) (work_at w a node p s t)
-  pub all : (node : ℕ) (a : Axis) (p s t : ℕ) → IsJumpNode w.told.grid node → IsFacePlace w.told.grid.shape.n p s t → Within (2 ^ 58) (work_at w a node p s t)
-
--- some sides have taken their sums
-pub record AreSummed (n g : ℕ) (old new : WorldState) : Type 0 where
-  pub only : OnlyWorkFaces old new
-  pub fit : IsFit n g new
-  pub tame : IsTame new
-  pub calm : (faces : BlockFaces) → CalmHas old faces → CalmHas new faces
-  pub keeps : (faces : BlockFaces) (node : ℕ) (a : Axis) (high : Bool) → IsLeafNode old.told.grid node → CalmHas old faces → SideHas old faces node a high → SideHas new faces node a high
-
--- the children of the block of a node that stand at a side of a coarser block have work faces with these numbers there
-pub record NearHas (w : WorldState) (faces : BlockFaces) (a : Axis) (high : Bool) (node : ℕ) : Type 0 where
-  pub at : (q s t child : ℕ) → q < 4 → IsNumberOf w.told.grid (child_beside a high q (block_at w.told.grid node)) child → s < w.told.grid.shape.n → t < w.told.grid.shape.n →
-      let p = side_position w.told.grid.shape.n (not high) in work_at w a child p s t ≡ faces a (child_beside a high q (block_at w.told.grid node)) p s t
-
--- these numbers are at most 2^56 in absolute value
-pub record NearWithin (w : WorldState) (a : Axis) (high : Bool) (node : ℕ) : Type 0 where
-  pub at : (q s t child : ℕ) → q < 4 → IsNumberOf w.told.grid (child_beside a high q (block_at w.told.grid node)) child → s < w.told.grid.shape.n → t < w.told.grid.shape.n →
-      Within (2 ^ 56) (work_at w a child (side_position w.told.grid.shape.n (not high)) s t)
-
--- a side of a leaf has taken its sums, and its other faces stay
-pub record SideTaken (n g : ℕ) (old new : WorldState) (node : ℕ) (a : Axis) (high : Bool) (beside : ℕ) : Type 0 where
-  pub only : OnlyOf old new 0 (FaceWork a) node
-  pub fit : IsFit n g new
-  pub others : (p s t : ℕ) → IsFacePlace old.told.grid.shape.n p s t → (p ≡ side_position old.told.grid.shape.n high → ⊥) → work_at new a node p s t ≡ work_at old a node p s t
-  pub within : (s t : ℕ) → s < old.told.grid.shape.n → t < old.told.grid.shape.n → Within (2 ^ 58) (work_at new a node (side_position old.told.grid.shape.n high) s t)
-  pub sums : (faces : BlockFaces) → NearHas old faces a high beside → (s t : ℕ) → s < old.told.grid.shape.n → t < old.told.grid.shape.n →
-      work_at new a node (side_position old.told.grid.shape.n high) s t ≡ four_finer old.told.grid.shape.n faces a high (block_at old.told.grid beside) s t
+abbrev pub OnlyWorkFaces : WorldState → WorldState → Type 0
+OnlyWorkFaces old new = OnlyFaces true old new

@@ -3,7 +3,7 @@
 ghost use Rattle.amr_num.specs.Numbers.{Within, at};
 ghost use Rattle.flux_conserve.specs.Jumps.{IsFacePlace, spot};
 ghost use Rattle.flux_conserve.specs.Sums.{IsFaceSet, four_at};
-ghost use Rattle.flux_conserve.specs.Work.{face_at};
+ghost use Rattle.flux_conserve.specs.FaceArrays.{face_at};
 ghost use Rattle.mesh_model.specs.Fields.ArrayPlaces as places;
 ghost use Rattle.mesh_model.specs.Fields.ArrayPlaces.{IsSize, face_extents, size_of};
 ghost use Rattle.std.specs.Prelude.{◌≡◌, ℕ, ◌+◌, ◌*◌, ◌/◌, ◌%◌, ◌^◌, ◌<◌, ◌≤◌, ◌+ℤ◌, length};

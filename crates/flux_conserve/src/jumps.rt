@@ -2,7 +2,7 @@
 
 ghost use Rattle.block_tree.specs.GridOf.{grid_of};
 ghost use Rattle.flux_conserve.specs.Jumps as jumps;
-ghost use Rattle.flux_conserve.specs.Work.{HasNoJump};
+ghost use Rattle.flux_conserve.specs.FaceArrays.{HasNoJump};
 ghost use Rattle.mesh_model.specs.Geometry.Blocks.{InDomain};
 ghost use Rattle.mesh_model.specs.Tree.Kinds.{is_leaf_block};
 ghost use Rattle.std.specs.Prelude.{◌≡◌, true, false};

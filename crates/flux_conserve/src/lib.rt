@@ -7,8 +7,7 @@ mod jumps;
 pub mod laws;
 mod sums;
 
-
-pub use correcting::correct;
+pub use correcting::{correct, correct_faces};
 pub use jumps::{has_jump, is_at_jump};
 
 #[cfg(test)]

@@ -1,19 +1,19 @@
 //! Jumps of level that are worked by hand.
 
 ghost use Rattle.amr_num.specs.Numbers.{Within, at};
-ghost use Rattle.flux_conserve.specs.Work.{WorkWithin};
+ghost use Rattle.flux_conserve.specs.FaceArrays.{FacesWithin};
 ghost use Rattle.rank_world.specs.Puts.{IsPut};
 ghost use Rattle.mesh_model.specs.Fields.Ranks.{IsFit};
 ghost use Rattle.mesh_model.specs.Geometry.Limits.{IsShape};
-ghost use Rattle.std.specs.Prelude.{◌≡◌, ◌≤◌, ◌^◌, IfSome};
+ghost use Rattle.std.specs.Prelude.{◌≡◌, ◌≤◌, ◌^◌, Bool, IfSome};
 
 use crate::laws::fluxes_are_jumped;
-use crate::{correct, has_jump, is_at_jump};
+use crate::{correct, correct_faces, has_jump, is_at_jump};
 use amr_num::{Axis, SideKind};
 use block_store::Layout;
 use block_tree::Tree;
-use mesh_model::{Shape, Var};
-use rank_world::World;
+use mesh_model::Shape;
+use rank_world::{World, face_var};
 use std::alloc::Global;
 
 /// Two roots side by side on x, with all sides of one kind.
@@ -35,13 +35,15 @@ fn two_roots(kind: SideKind) -> Shape
 }
 
 /// The world of two roots of which the first is refined: its children are the nodes 1 to 8, and the other root is node 9.
+/// It has a face variable.
 fn refined_world(alloc: Global, kind: SideKind) -> Option<World<4, 1>>
     ensures fit { IfSome result (λ world. IsFit 4 1 world) }
-    ensures small { IfSome result (λ world. WorkWithin world (2 ^ 56)) }
+    ensures declared { IfSome result (λ world. world.told.counts.faces ≡ 1) }
+    ensures small { (work : Bool) → IfSome result (λ world. FacesWithin work world (2 ^ 56)) }
 {
     let layout = Layout {
         cells: 1,
-        faces: 0,
+        faces: 1,
         edges: 0,
     };
     let roots = match Tree::roots(alloc, two_roots(kind)) {
@@ -70,25 +72,32 @@ fn put(values: &mut [i64], place: usize, value: i32)
     }
 }
 
-/// Puts a number at a place of the work faces normal to x of a node that is there.
-fn set_work(world: &mut World<4, 1>, node: u32, place: usize, value: i32)
+/// Puts a number at a place of the faces normal to x of a node that is there, or of its work faces.
+fn set_face(world: &mut World<4, 1>, work: bool, node: u32, place: usize, value: i32)
     requires fit { IsFit 4 1 world.old }
-    requires small { WorkWithin world.old (2 ^ 56) }
+    requires declared { world.old.told.counts.faces ≡ 1 }
+    requires small { FacesWithin work world.old (2 ^ 56) }
     ensures fit { IsFit 4 1 world.new }
-    ensures small { WorkWithin world.new (2 ^ 56) }
+    ensures declared { world.new.told.counts.faces ≡ 1 }
+    ensures small { FacesWithin work world.new (2 ^ 56) }
 {
     if node < world.tree().len() {
-        put(world.values_mut(Var::FaceWork(Axis::X), node), place, value);
+        put(
+            world.values_mut(face_var(work, Axis::X), node),
+            place,
+            value,
+        );
     }
 }
 
 /// The number there.
-fn work(world: &World<4, 1>, node: u32, place: usize) -> Option<i64>
-    requires { IsFit 4 1 world.now }
+fn face(world: &World<4, 1>, work: bool, node: u32, place: usize) -> Option<i64>
+    requires fit { IsFit 4 1 world.now }
+    requires declared { world.now.told.counts.faces ≡ 1 }
 {
     if node < world.tree().len() {
         world
-            .values(Var::FaceWork(Axis::X), node)
+            .values(face_var(work, Axis::X), node)
             .get(place)
             .copied()
     } else {
@@ -96,7 +105,7 @@ fn work(world: &World<4, 1>, node: u32, place: usize) -> Option<i64>
     }
 }
 
-/// Numbers of work faces normal to x before: a node, a place, which is (1 + i) + 7 (1 + j) + 42 (1 + k) for the face at
+/// Numbers of faces normal to x before: a node, a place, which is (1 + i) + 7 (1 + j) + 42 (1 + k) for the face at
 /// i, j and k of the block, and a number. Node 2 has the octant (1, 0, 0), node 8 (1, 1, 1), and node 1 (0, 0, 0).
 const BEFORE: [(u32, usize, i32); 11] = [
     (2, 54, 1),
@@ -124,25 +133,58 @@ const AFTER: [(u32, usize, i64, i64); 8] = [
     (1, 99, 9, 9),
 ];
 
+/// The world with these numbers on its faces or on its work faces.
+fn world_before(alloc: Global, kind: SideKind, work: bool) -> Option<World<4, 1>>
+    ensures fit { IfSome result (λ world. IsFit 4 1 world) }
+    ensures declared { IfSome result (λ world. world.told.counts.faces ≡ 1) }
+    ensures small { IfSome result (λ world. FacesWithin work world (2 ^ 56)) }
+{
+    let mut world = refined_world(alloc, kind)?;
+    for (node, place, value) in BEFORE {
+        set_face(&mut world, work, node, place, value);
+    }
+    Some(world)
+}
+
+/// Whether its faces, or its work faces, have the numbers that they are to have afterwards.
+fn is_after(world: &World<4, 1>, kind: SideKind, work: bool) -> bool
+    requires fit { IsFit 4 1 world.now }
+    requires declared { world.now.told.counts.faces ≡ 1 }
+{
+    for (node, place, ended, wrapped) in AFTER {
+        let wanted = if kind == SideKind::Periodic {
+            wrapped
+        } else {
+            ended
+        };
+        if face(world, work, node, place) != Some(wanted) {
+            return false;
+        }
+    }
+    true
+}
+
 /// Two roots side by side, of which the first is refined.
+#[test]
+fn coarse_work_faces_take_the_sums_of_finer_ones(rt: HostRuntime) {
+    for kind in [SideKind::Outflow, SideKind::Periodic] {
+        let mut mesh = world_before(rt.alloc(), kind, true).expect(&rt, "memory");
+        correct(&mut mesh);
+        assert!(rt; is_after(&mesh, kind, true));
+        assert!(rt; !is_after(&mesh, kind, false));
+    }
+    fluxes_are_jumped();
+}
+
+/// The same of the face variable.
 #[test]
 fn coarse_faces_take_the_sums_of_finer_ones(rt: HostRuntime) {
     for kind in [SideKind::Outflow, SideKind::Periodic] {
-        let mut mesh = refined_world(rt.alloc(), kind).expect(&rt, "memory");
-        for (node, place, value) in BEFORE {
-            set_work(&mut mesh, node, place, value);
-        }
-        correct(&mut mesh);
-        for (node, place, ended, wrapped) in AFTER {
-            let wanted = if kind == SideKind::Periodic {
-                wrapped
-            } else {
-                ended
-            };
-            assert_eq!(rt; work(&mesh, node, place), Some(wanted));
-        }
+        let mut mesh = world_before(rt.alloc(), kind, false).expect(&rt, "memory");
+        correct_faces(&mut mesh);
+        assert!(rt; is_after(&mesh, kind, false));
+        assert!(rt; !is_after(&mesh, kind, true));
     }
-    fluxes_are_jumped();
 }
 
 /// Whether the leaf of a node is at a jump of level.

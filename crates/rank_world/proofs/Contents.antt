@@ -1,16 +1,14 @@
 -- The contents that a world's leaves have are the contents that its leaves hold.
-use Rattle.std.proofs.Common.{◌≡◌, ℕ, ◌+◌, ◌*◌, ◌/◌, ◌%◌, ◌<◌, ◌⊎◌, true, false, List, length, get_or, ℤ, pos, refl, sym, ap, ap₂, subst, ◌∙◌, arith, inl, inr}
+use Rattle.std.proofs.Common.{◌≡◌, ℕ, ◌+◌, ◌*◌, ◌/◌, ◌%◌, ◌<◌, true, false, ℤ, pos, refl, sym, ap, ap₂, subst, ◌∙◌, arith, inl, inr}
 use Rattle.std.proofs.lemmas.Bool.{cases_Bool}
 use Rattle.std.proofs.lemmas.List.Sums.{position_or_len_is}
-use Rattle.std.specs.List.{position_or_len}
 use Rattle.amr_num.specs.declared.BlockAt.{BlockAt}
 use Rattle.amr_num.specs.declared.CellAt.{CellAt}
 use Rattle.mesh_model.specs.Geometry.Blocks.{is_same_block}
 use Rattle.mesh_model.specs.Geometry.Places.{in_block}
 use Rattle.mesh_model.specs.Tree.Order.{Sorted, key, nodes}
-use Rattle.mesh_model.specs.Tree.Kinds.{Grid, block_of, is_leaf, is_leaf_block, is_split}
+use Rattle.mesh_model.specs.Tree.Kinds.{Grid, block_of, is_leaf, is_leaf_block}
 use Rattle.mesh_model.specs.Tree.ValidGrid.{Valid}
-use Rattle.mesh_model.specs.Fields.Plain.{on_cells}
 use Rattle.mesh_model.specs.Fields.Ranks.{WorldState}
 use Rattle.mesh_model.specs.Fields.Views.{cell_view}
 use Rattle.mesh_model.proofs.FieldLemmas.BlockOctants.{block_of_cell}
@@ -21,12 +19,12 @@ use Rattle.mesh_model.proofs.FieldLemmas.ValidGrid.{leaf_whole}
 use Rattle.mesh_model.proofs.TreeLemmas.Nodes.{nodes_sorted}
 use Rattle.mesh_model.proofs.TreeLemmas.Tests.{refuted}
 use Rattle.mesh_model.proofs.TreeLemmas.Tiling.{leaf_says}
-use Rattle.block_tree.specs.Numbered.{IsNode, IsNumberOf, block_at, block_in}
+use Rattle.block_tree.specs.Numbered.{IsNode, block_at}
 use Rattle.block_tree.proofs.Flags.{same_says, same_shows}
 use Rattle.block_tree.proofs.Leaves.{leaf_node}
 use Rattle.block_tree.proofs.Members.{at_in, one_place}
 use Rattle.rank_world.specs.Contents.{content_in, contents_of, node_of}
-use Rattle.rank_world.specs.Holding.{IsLeafNode, LeavesHold, NodeHolds, numbers_of}
+use Rattle.rank_world.specs.Holding.{IsLeafNode, LeavesHold, numbers_of}
 
 -- ---- blocks and numbers of nodes
 

@@ -1,5 +1,5 @@
 -- The numbers on faces that a world's leaves have are those that its leaves hold.
-use Rattle.std.proofs.Common.{◌≡◌, ℕ, zero, suc, ◌+◌, ◌-◌, ◌*◌, ◌/◌, ◌%◌, ◌<◌, Bool, true, false, ◌&&◌, ◌||◌, ◌==◌, not, ℤ, pos, refl, sym, ap, ap₂, subst, ◌∙◌, arith, inl, inr, Option, Some, None}
+use Rattle.std.proofs.Common.{◌≡◌, ℕ, zero, suc, ◌+◌, ◌-◌, ◌*◌, ◌/◌, ◌%◌, ◌<◌, Bool, true, false, ◌&&◌, ◌||◌, ◌==◌, not, ℤ, pos, refl, sym, ap, ap₂, ◌∙◌, arith, inl, inr, Option, Some, None}
 use Rattle.std.specs.Prelude.{if◌then◌else◌, nat_lt}
 use Rattle.std.proofs.lemmas.Bool.{and_parts, cases_Bool, cases_lt, le-ltb, lt-ltb}
 use Rattle.amr_num.specs.declared.Axis.{Axis}
@@ -10,18 +10,18 @@ use Rattle.mesh_model.specs.declared.geometry.Shape.{Shape}
 use Rattle.mesh_model.specs.Geometry.Canonical.{canonical_on, is_canonical, is_canonical_at}
 use Rattle.mesh_model.specs.Geometry.Coordinates.{Inside, above, after, below, extent, face_numbers, face_of, high_cell, is_periodic, low_cell, moved, on, step, with, wrapped}
 use Rattle.mesh_model.specs.Geometry.Places.{in_block, longer_on}
-use Rattle.mesh_model.specs.Tree.Kinds.{Grid, block_of, holds, is_leaf, is_leaf_block, is_leaf_face}
+use Rattle.mesh_model.specs.Tree.Kinds.{Grid, block_of, holds, is_leaf, is_leaf_face}
 use Rattle.mesh_model.specs.Tree.Order.{Sorted}
 use Rattle.mesh_model.specs.Tree.ValidGrid.{Valid}
 use Rattle.mesh_model.specs.Fields.Plain.{on_faces}
 use Rattle.mesh_model.specs.Fields.Ranks.{WorldState}
 use Rattle.mesh_model.specs.Fields.Views.{face_view}
 use Rattle.mesh_model.proofs.FieldLemmas.Beside.{above_in, above_out, wrapped_before, wrapped_end, wrapped_open}
-use Rattle.mesh_model.proofs.FieldLemmas.CellKinds.{Kinds, kinds_of_tiles, wide_of}
+use Rattle.mesh_model.proofs.FieldLemmas.CellKinds.{kinds_of_tiles, wide_of}
 use Rattle.mesh_model.proofs.FieldLemmas.LeafFaces.{view_of_leaf_face}
 use Rattle.mesh_model.proofs.FieldLemmas.ValidGrid.{leaf_inside}
 use Rattle.mesh_model.proofs.GeometryLemmas.OnAxes.{on_with, with_level, with_own, with_with}
-use Rattle.mesh_model.proofs.GeometryLemmas.ShapeLimits.{cells_some, extent_some}
+use Rattle.mesh_model.proofs.GeometryLemmas.ShapeLimits.{cells_some}
 use Rattle.rank_world.specs.Contents.{at_cell, beside_cell, face_in, faces_of, node_of}
 use Rattle.rank_world.specs.Holding.{LeavesHoldFaces}
 use Rattle.rank_world.proofs.Contents.{along, leaf_of_number}
@@ -59,7 +59,7 @@ face_of_high s f c canonical high = elim (cases_lt (on f.axis (face_numbers f)) 
         absurd cc
     | inr ends ↦
         let none : high_cell s f ≡ None =
-            ap (λ b. moved f.axis (above b (extent s f.axis f.level) (on f.axis (face_numbers f))) (face_numbers f)) ends ∙ ap (λ o. moved f.axis o (face_numbers f)) (above_out (extent s f.axis f.level) (on f.axis (face_numbers f)) past) in
+        ap (λ b. moved f.axis (above b (extent s f.axis f.level) (on f.axis (face_numbers f))) (face_numbers f)) ends ∙ ap (λ o. moved f.axis o (face_numbers f)) (above_out (extent s f.axis f.level) (on f.axis (face_numbers f)) past) in
         absurd cc
   ]
 ]
@@ -73,9 +73,9 @@ face_of_low s f c wide canonical low = by_position (is_periodic s f.axis) (on f.
     next_is : (r : ℕ) → c ≡ with f.axis r (face_numbers f) → wrapped (is_periodic s f.axis) (extent s f.axis f.level) (suc r) ≡ on f.axis (face_numbers f) → face_of f.axis (after s f.axis c) ≡ f
     next_is r is same =
         let moved_on : after s f.axis c ≡ with f.axis (wrapped (is_periodic s f.axis) (extent s f.axis f.level) (suc r)) (face_numbers f) =
-            ap (after s f.axis) is
-            ∙ ap₂ (λ l p. with f.axis (wrapped (is_periodic s f.axis) (extent s f.axis l) (suc p)) (with f.axis r (face_numbers f))) (with_level f.axis r (face_numbers f)) (on_with f.axis r (face_numbers f))
-            ∙ with_with f.axis (wrapped (is_periodic s f.axis) (extent s f.axis f.level) (suc r)) r (face_numbers f) in
+        ap (after s f.axis) is
+        ∙ ap₂ (λ l p. with f.axis (wrapped (is_periodic s f.axis) (extent s f.axis l) (suc p)) (with f.axis r (face_numbers f))) (with_level f.axis r (face_numbers f)) (on_with f.axis r (face_numbers f))
+        ∙ with_with f.axis (wrapped (is_periodic s f.axis) (extent s f.axis f.level) (suc r)) r (face_numbers f) in
         ap (face_of f.axis) (moved_on ∙ ap (λ p. with f.axis p (face_numbers f)) same ∙ with_own f.axis (face_numbers f))
 
     some_is : (r : ℕ) → Some c ≡ moved f.axis (Some r) (face_numbers f) → c ≡ with f.axis r (face_numbers f)
@@ -91,7 +91,7 @@ face_of_low s f c wide canonical low = by_position (is_periodic s f.axis) (on f.
       | inl inside ↦ next_is r (some_is r (sym is)) (wrapped_before (is_periodic s f.axis) (extent s f.axis f.level) r inside ∙ sym at)
       | inr past ↦
           let off : (not (is_periodic s f.axis) || nat_lt (on f.axis (face_numbers f)) (extent s f.axis f.level)) ≡ false =
-              ap₂ (λ b p. not b || nat_lt p (extent s f.axis f.level)) periodic at ∙ le-ltb (suc r) (extent s f.axis f.level) past in
+          ap₂ (λ b p. not b || nat_lt p (extent s f.axis f.level)) periodic at ∙ le-ltb (suc r) (extent s f.axis f.level) past in
           absurd cc
     ]
     by_position false (suc r) periodic at is =

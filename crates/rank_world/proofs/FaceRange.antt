@@ -1,8 +1,8 @@
 -- The first leaf face of a leaf that is out of range, as its arrays give it.
-use Rattle.std.proofs.Common.{◌≡◌, ℕ, zero, suc, ◌+◌, ◌*◌, ◌<◌, ◌≤◌, ◌^◌, ◌⊎◌, Bool, true, false, not, ◌&&◌, ◌||◌, ◌==◌, List, ℤ, Option, Some, None, is_some, refl, sym, ap, ap₂, subst, ◌∙◌, arith, inl, inr, eqb-true, eq-eqb, ne_eqb}
+use Rattle.std.proofs.Common.{◌≡◌, ℕ, ◌+◌, ◌<◌, ◌≤◌, ◌^◌, ◌⊎◌, Bool, true, false, not, ◌&&◌, ◌||◌, ◌==◌, List, ℤ, Option, Some, None, refl, sym, ap, ap₂, subst, ◌∙◌, arith, inl, inr, eq-eqb, ne_eqb}
 use Rattle.std.specs.Prelude.{if◌then◌else◌}
 use Rattle.std.specs.Option.{option_map}
-use Rattle.std.proofs.lemmas.Bool.{and_parts, cases_Bool, cases_lt}
+use Rattle.std.proofs.lemmas.Bool.{cases_Bool, cases_lt}
 use Rattle.amr_num.specs.declared.Axis.{Axis}
 use Rattle.amr_num.specs.declared.Axis.TheVariants.{X, Y, Z}
 use Rattle.amr_num.specs.declared.BlockAt.{BlockAt}
@@ -20,8 +20,7 @@ use Rattle.mesh_model.specs.declared.geometry.Shape.{Shape}
 use Rattle.mesh_model.proofs.TreeLemmas.Tests.{refuted}
 use Rattle.block_tree.specs.Numbered.{block_at}
 use Rattle.block_tree.proofs.Leaves.{split_leaf}
-use Rattle.rank_world.specs.Holding.{IsLeafNode, face_array}
-use Rattle.mesh_model.specs.Fields.FaceSplits.{position}
+use Rattle.rank_world.specs.Holding.{IsLeafNode, stored}
 use Rattle.mesh_model.specs.Fields.RangeWalk.{is_above}
 use Rattle.mesh_model.proofs.FieldLemmas.FirstFound.{places_mapped, places_same}
 use Rattle.mesh_model.proofs.FieldLemmas.LeafFaces.{Either, Seen, whole_leaf_face}
@@ -29,7 +28,6 @@ use Rattle.mesh_model.proofs.GeometryLemmas.ShapeLimits.{cells_some}
 use Rattle.block_store.specs.Above.{counted_face_at, first_in_faces, is_counted_face}
 use Rattle.block_store.specs.declared.above.Above.{Above}
 use Rattle.block_store.specs.declared.above.CountedFaces.{CountedFaces}
-use Rattle.block_tree.specs.Beside.{finer_beside}
 use Rattle.block_tree.specs.SideFaces.{face_name, side_position}
 use Rattle.block_tree.proofs.SideFaces.{calm_face, calm_side, split_face}
 use Rattle.rank_world.specs.FaceRange.{CountLeafFaces, HasAxis, axis_above, face_above_at}
@@ -179,11 +177,11 @@ first_sized m e g sized b f xs =
     ap₂ (λ u v. first_in_faces (λ i j k. number_at (face_extents u v f.axis) xs (v + i) (v + j) (v + k)) u f) (sym sized.cells) (sym sized.guards)
 
 -- what is found in a node's array is the first of its leaf faces
-pub axis_found : (m e : ℕ) (w : WorldState) (a : Axis) (node : ℕ) → IsFit m e w → Valid w.told.grid → IsLeafNode w.told.grid node → InDomain w.told.grid.shape (block_at w.told.grid node) →
-    (f : CountedFaces) → f.axis ≡ a → CountLeafFaces w.told.grid (block_at w.told.grid node) f → (xs : List ℤ) → xs ≡ face_array w a node → (field : FaceAt → ℤ) → HasAxis w field node a →
+pub axis_found : (work : Bool) (m e : ℕ) (w : WorldState) (a : Axis) (node : ℕ) → IsFit m e w → Valid w.told.grid → IsLeafNode w.told.grid node → InDomain w.told.grid.shape (block_at w.told.grid node) →
+    (f : CountedFaces) → f.axis ≡ a → CountLeafFaces w.told.grid (block_at w.told.grid node) f → (xs : List ℤ) → xs ≡ stored work w a node → (field : FaceAt → ℤ) → HasAxis work w field node a →
     (r : Option Above) → r ≡ first_in_faces (λ i j k. number_at (face_extents m e f.axis) xs (e + i) (e + j) (e + k)) m f →
     option_map (told_face w.told.grid (block_at w.told.grid node) f.axis) r ≡ axis_above w.told.grid field (block_at w.told.grid node) a
-axis_found m e w a node fit valid leaf inside f same counts xs is field has r found =
+axis_found work m e w a node fit valid leaf inside f same counts xs is field has r found =
     let g = w.told.grid in
     let b = block_at g node in
     let whole : is_split_block g b ≡ false = refuted _ (λ s. let none = split_leaf g valid b s in let here = leaf.leaf in cc) in

@@ -1,5 +1,5 @@
 -- Numbers on leaf faces that are out of range.
-use Rattle.std.specs.Prelude.{ℕ, ◌^◌, ◌&&◌, ◌≡◌, true, false, Option, None, Some, if◌then◌else◌, ℤ}
+use Rattle.std.specs.Prelude.{ℕ, ◌^◌, ◌&&◌, ◌≡◌, Bool, true, false, Option, None, Some, if◌then◌else◌, ℤ}
 use Rattle.std.specs.Option.{option_or}
 use Rattle.amr_num.specs.declared.Axis.{Axis}
 use Rattle.amr_num.specs.declared.Axis.TheVariants.{X, Y, Z}
@@ -17,15 +17,22 @@ use Rattle.mesh_model.specs.Fields.Ranks.{WorldState}
 use Rattle.block_store.specs.declared.above.CountedFaces.{CountedFaces}
 use Rattle.block_tree.specs.Beside.{finer_beside}
 use Rattle.block_tree.specs.Numbered.{block_at}
-use Rattle.rank_world.specs.Holding.{face_array}
+use Rattle.rank_world.specs.Holding.{stored}
 use Rattle.rank_world.specs.declared.faces.FaceAbove.{FaceAbove}
 
--- the node has a field on faces, on its faces normal to an axis; on all
-abbrev pub HasAxis : WorldState → (FaceAt → ℤ) → ℕ → Axis → Type 0
-HasAxis w field node a = HoldsFaceField w.told.grid field a (block_at w.told.grid node) (faces_in w.told.grid a (face_array w a node))
+-- the node has a field on faces, in its arrays of faces normal to an axis; in those of all axes
+abbrev pub HasAxis : Bool → WorldState → (FaceAt → ℤ) → ℕ → Axis → Type 0
+HasAxis work w field node a = HoldsFaceField w.told.grid field a (block_at w.told.grid node) (faces_in w.told.grid a (stored work w a node))
 
+abbrev pub HasAxes : Bool → WorldState → (FaceAt → ℤ) → ℕ → Type 0
+HasAxes work w field node = (a : Axis) → HasAxis work w field node a
+
+-- on its faces, and on its work faces
 abbrev pub HasField : WorldState → (FaceAt → ℤ) → ℕ → Type 0
-HasField w field node = (a : Axis) → HasAxis w field node a
+HasField w field node = HasAxes false w field node
+
+abbrev pub HasWorkField : WorldState → (FaceAt → ℤ) → ℕ → Type 0
+HasWorkField w field node = HasAxes true w field node
 
 -- what a field has on a leaf face, where that is above 2^40 in absolute value
 abbrev pub face_above_at : Grid → (FaceAt → ℤ) → FaceAt → Option FaceAbove

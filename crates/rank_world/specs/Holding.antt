@@ -1,16 +1,21 @@
 -- Worlds whose nodes hold the views of a field.
-use Rattle.std.specs.Prelude.{◌≡◌, ℕ, ◌+◌, ◌<◌, ◌↔◌, true, List, length, ℤ, None}
+use Rattle.std.specs.Prelude.{◌≡◌, ℕ, ◌+◌, ◌<◌, ◌↔◌, Bool, true, false, List, length, ℤ, None}
 use Rattle.amr_num.specs.declared.Axis.{Axis}
+use Rattle.amr_num.specs.declared.Axis.TheVariants.{X, Y, Z}
+use Rattle.amr_num.specs.declared.BlockAt.{BlockAt}
 use Rattle.amr_num.specs.declared.CellAt.{CellAt}
 use Rattle.amr_num.specs.declared.FaceAt.{FaceAt}
 use Rattle.amr_num.specs.Numbers.{Within, number_range}
 use Rattle.mesh_model.specs.declared.fields.values.Var.{Var}
-use Rattle.mesh_model.specs.declared.fields.values.Var.TheVariants.{Cell, Face}
+use Rattle.mesh_model.specs.declared.fields.values.Var.TheVariants.{Cell, Face, FaceWork}
 use Rattle.mesh_model.specs.Fields.Arrays.{array_in}
 use Rattle.mesh_model.specs.Fields.Octants.{cells_of}
 use Rattle.mesh_model.specs.Fields.ArrayPlaces.{HoldsFaces, HoldsViews}
 use Rattle.mesh_model.specs.Fields.FinePlaces.{faces_in}
-use Rattle.mesh_model.specs.Tree.Kinds.{Grid, is_leaf_block}
+use Rattle.mesh_model.specs.Geometry.Canonical.{canonical_on}
+use Rattle.mesh_model.specs.Geometry.Coordinates.{face_of}
+use Rattle.mesh_model.specs.Geometry.Places.{in_block, longer_on}
+use Rattle.mesh_model.specs.Tree.Kinds.{Grid, is_leaf_block, is_leaf_face}
 use Rattle.mesh_model.specs.Fields.Plain.{Mesh}
 use Rattle.mesh_model.specs.Fields.Valid.{ValidMesh}
 use Rattle.mesh_model.specs.Fields.Ranks.{WorldState, rank_at}
@@ -48,6 +53,26 @@ NodeHoldsFaces w field node = (a : Axis) → HoldsFaces w.told.grid field a (blo
 
 abbrev pub LeavesHoldFaces : WorldState → (FaceAt → ℤ) → Type 0
 LeavesHoldFaces w field = (node : ℕ) → IsLeafNode w.told.grid node → NodeHoldsFaces w field node
+
+-- a block has a field on the leaf faces among its faces normal to an axis; on its other faces, those with finer leaves beside them, it may have anything
+pub record HoldsLeafFaces (g : Grid) (field : FaceAt → ℤ) (a : Axis) (b : BlockAt) (numbers : ℕ → ℕ → ℕ → ℤ) : Type 0 where
+  pub at : (i j k : ℕ) → i < longer_on a X g.shape.n → j < longer_on a Y g.shape.n → k < longer_on a Z g.shape.n →
+      let f = face_of a (canonical_on g.shape a (in_block g.shape.n b i j k)) in
+      is_leaf_face g f ≡ true → numbers (g.shape.g + i) (g.shape.g + j) (g.shape.g + k) ≡ field f
+
+-- each leaf does, so that every copy of a leaf face's number is the field's
+abbrev pub LeafFacesHold : WorldState → (FaceAt → ℤ) → Type 0
+LeafFacesHold w field = (node : ℕ) (a : Axis) → IsLeafNode w.told.grid node →
+    HoldsLeafFaces w.told.grid field a (block_at w.told.grid node) (faces_in w.told.grid a (face_array w a node))
+
+-- the arrays of faces normal to an axis: the work faces, or those of the face variable
+abbrev pub face_var : Bool → Axis → Var
+face_var true a = FaceWork a
+face_var false a = Face a
+
+-- such an array of a node
+abbrev pub stored : Bool → WorldState → Axis → ℕ → List ℤ
+stored work w a node = array_in (rank_at w 0).own.values (face_var work a) node
 
 -- the numbers of one cell variable may be others
 pub record OnlyCells (old new : WorldState) (v : ℕ) : Type 0 where

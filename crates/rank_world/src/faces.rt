@@ -1,8 +1,11 @@
 //! The leaf faces of leaves.
 
+ghost use Rattle.amr_num.specs.declared.Axis.{Axis as Axes};
 ghost use Rattle.amr_num.specs.declared.FaceAt.{FaceAt as Faces};
 ghost use Rattle.block_tree.specs.GridOf.{grid_of};
 ghost use Rattle.block_tree.specs.Numbered.{block_at};
+ghost use Rattle.mesh_model.specs.Fields.ArrayPlaces.{extents_of, face_extents};
+ghost use Rattle.mesh_model.specs.Fields.Arrays.{HasVar};
 ghost use Rattle.mesh_model.specs.Fields.Ranks.{IsFit};
 ghost use Rattle.mesh_model.specs.Geometry.Blocks.{InDomain};
 ghost use Rattle.mesh_model.specs.Geometry.Canonical.{canonical_on};
@@ -10,9 +13,10 @@ ghost use Rattle.mesh_model.specs.Geometry.Coordinates.{face_of};
 ghost use Rattle.mesh_model.specs.Geometry.Limits.{IsShape};
 ghost use Rattle.mesh_model.specs.Geometry.Places.{in_block};
 ghost use Rattle.rank_world.specs.FaceRange as above;
-ghost use Rattle.rank_world.specs.FaceRange.{CountLeafFaces, HasAxis, HasField};
+ghost use Rattle.rank_world.specs.FaceRange.{CountLeafFaces, HasAxes, HasAxis, HasField, HasWorkField};
+ghost use Rattle.rank_world.specs.Holding as holding;
 ghost use Rattle.rank_world.specs.Holding.{IsLeafNode};
-ghost use Rattle.std.specs.Prelude.{◌≡◌, ◌+◌, ◌*◌, ◌<◌, ◌≤◌, ℤ};
+ghost use Rattle.std.specs.Prelude.{◌≡◌, ℕ, ◌+◌, ◌*◌, ◌<◌, ◌≤◌, ℤ};
 
 use crate::world::World;
 use amr_num::{Axis, BlockAt, CellAt, FaceAt};
@@ -27,6 +31,18 @@ pub struct FaceAbove {
     pub face: FaceAt,
     /// The number.
     pub value: i64,
+}
+
+/// The array of a block's faces normal to an axis: its work faces, or those of the face variable.
+pub fn face_var(work: bool, axis: Axis) -> Var
+    ensures value { result ≡ holding.face_var work axis }
+    ensures extents { (n g : ℕ) → extents_of n g result ≡ face_extents n g axis }
+{
+    if work {
+        Var::FaceWork(axis)
+    } else {
+        Var::Face(axis)
+    }
 }
 
 /// The coordinate on an axis of a block's face.
@@ -70,25 +86,48 @@ fn leaf_faces(tree: &Tree, axis: Axis, block: BlockAt) -> CountedFaces
 /// The first leaf face of a leaf normal to an axis whose number is out of range.
 fn axis_above<const N: usize, const G: usize>(
     world: &World<N, G>,
+    work: bool,
     axis: Axis,
     node: u32,
 ) -> Option<FaceAbove>
     requires fit { IsFit N G world.now }
-    requires declared { 0 < world.now.told.counts.faces }
+    requires declared { HasVar world.now.told.counts (holding.face_var work axis) }
     requires leaf { IsLeafNode world.now.told.grid node }
-    ensures { (field : Faces → ℤ) → HasAxis world.now field node axis → result ≡ above.axis_above world.now.told.grid field (block_at world.now.told.grid node) axis }
+    ensures { (field : Faces → ℤ) → HasAxis work world.now field node axis → result ≡ above.axis_above world.now.told.grid field (block_at world.now.told.grid node) axis }
 {
     let tree = world.tree();
     let shape = tree.shape();
     let block = tree.at(node);
     let faces = leaf_faces(tree, axis, block);
-    match faces_above(N, G, world.values(Var::Face(axis), node), faces) {
+    match faces_above(N, G, world.values(face_var(work, axis), node), faces) {
         None => None,
         Some(found) => Some(FaceAbove {
             face: name_of(&shape, block, axis, found),
             value: found.value,
         }),
     }
+}
+
+/// The first leaf face of a leaf whose number is out of range, on all axes.
+fn first_above<const N: usize, const G: usize>(
+    world: &World<N, G>,
+    work: bool,
+    node: u32,
+) -> Option<FaceAbove>
+    requires fit { IsFit N G world.now }
+    requires declared { (a : Axes) → HasVar world.now.told.counts (holding.face_var work a) }
+    requires leaf { IsLeafNode world.now.told.grid node }
+    ensures { (field : Faces → ℤ) → HasAxes work world.now field node → result ≡ above.first_above world.now.told.grid field (block_at world.now.told.grid node) }
+{
+    let on_x = axis_above(world, work, Axis::X, node);
+    if on_x.is_some() {
+        return on_x;
+    }
+    let on_y = axis_above(world, work, Axis::Y, node);
+    if on_y.is_some() {
+        return on_y;
+    }
+    axis_above(world, work, Axis::Z, node)
 }
 
 /// The first leaf face of a leaf whose number is out of range, with that number: first those normal to x, then y, then z,
@@ -102,13 +141,18 @@ pub fn first_face_above<const N: usize, const G: usize>(
     requires leaf { IsLeafNode world.now.told.grid node }
     ensures { (field : Faces → ℤ) → HasField world.now field node → result ≡ above.first_above world.now.told.grid field (block_at world.now.told.grid node) }
 {
-    let on_x = axis_above(world, Axis::X, node);
-    if on_x.is_some() {
-        return on_x;
-    }
-    let on_y = axis_above(world, Axis::Y, node);
-    if on_y.is_some() {
-        return on_y;
-    }
-    axis_above(world, Axis::Z, node)
+    first_above(world, false, node)
+}
+
+/// The first leaf face of a leaf whose number in the work faces is out of range, with that number, in the same order. So new
+/// numbers can be looked at before they are taken over.
+pub fn first_work_face_above<const N: usize, const G: usize>(
+    world: &World<N, G>,
+    node: u32,
+) -> Option<FaceAbove>
+    requires fit { IsFit N G world.now }
+    requires leaf { IsLeafNode world.now.told.grid node }
+    ensures { (field : Faces → ℤ) → HasWorkField world.now field node → result ≡ above.first_above world.now.told.grid field (block_at world.now.told.grid node) }
+{
+    first_above(world, true, node)
 }

@@ -1,55 +1,20 @@
-use Rattle.std.proofs.Common.{◌≡◌, ℕ, Bool, length, ap, subst, sym, ◌∙◌, arith, inl, inr}
-use Rattle.std.proofs.lemmas.Bool.{cases_lt}
-use Rattle.mesh_model.specs.Fields.Ranks.{Told}
-use Rattle.mesh_model.specs.Tree.Kinds.{Grid}
-use Rattle.mesh_model.specs.Tree.Order.{nodes}
-use Rattle.mesh_model.specs.Tree.ValidGrid.{Valid}
-use Rattle.block_tree.proofs.Facts.{known}
-use Rattle.rank_world.specs.Holding.{IsLeafNode}
-use Rattle.flux_conserve.specs.Work.{CalmHas, SideHas}
-use Rattle.amr_num.specs.declared.Axis.{Axis}
-use Rattle.flux_conserve.specs.Jumps.{BlockFaces}
-use Rattle.flux_conserve.proofs.Worlds.{field_after, none_summed, numbers_after, small_tame, tame_small, then_summed}
+use Rattle.std.proofs.Common.{true, lit<}
+use Rattle.flux_conserve.proofs.Fields.{named}
+use Rattle.flux_conserve.proofs.Worlds.{calm_of, field_after, holds_has, small_tame, tame_small}
 use Rattle.flux_conserve.proofs.correcting.correct.Goals as goal
 
-pub loop-node-init : goal.loop-node-init
-loop-node-init g c = record {
-  summed = none_summed g.row.N g.row.G c.args.world.now c.requires.fit (small_tame c.args.world.now c.requires.small);
-  sides = λ faces k a high less. absurd (omega arith);
-}
-
-pub loop-node-preserved : goal.loop-node-preserved
-loop-node-preserved g c =
-    let old = c.args.world.now in
-    let now = c.loop-node.world in
-    let before = c.loop-node.invariant.summed in
-    let step = c.correct_node.ensures.summed in
-    record {
-      summed = then_summed g.row.N g.row.G old now c.correct_node.new.world before step;
-      sides = λ faces k a high less leaf calm.
-          let here : IsLeafNode now.told.grid k = subst (λ (t : Told). IsLeafNode t.grid k) (sym before.only.told) leaf in
-          elim (cases_lt k c.loop-node.node) [
-            | inl earlier ↦ step.keeps faces k a high here (before.calm faces calm) (c.loop-node.invariant.sides faces k a high earlier leaf calm)
-            | inr later ↦ (
-                let last : k ≡ c.loop-node.node = omega arith in
-                subst (λ u. SideHas c.correct_node.new.world faces u a high) (sym last)
-                (c.correct_node.ensures.sides faces a high (subst (IsLeafNode now.told.grid) last here) (before.calm faces calm)))
-          ];
-    }
+pub correct_arrays-requires : goal.correct_arrays-requires
+correct_arrays-requires g c = (lit< tt, (c.requires.fit, (λ a. tt, small_tame true c.args.world.now c.requires.small)))
 
 pub returns : goal.returns
 returns g c =
     let old = c.args.world.now in
-    let now = c.loop-node.world in
-    let steps = c.loop-node.invariant.summed in
-    let valid : Valid old.told.grid = subst Valid c.tree.ensures (known c.tree.result.now).valid in
-    let many : c.len-node-end.result ≡ length (nodes old.told.grid.leaves) = c.len-node-end.ensures.value ∙ ap (λ (h : Grid). length (nodes h.leaves)) c.tree.ensures in
-    let sides : (faces : BlockFaces) (k : ℕ) (a : Axis) (high : Bool) → IsLeafNode old.told.grid k → CalmHas old faces → SideHas now faces k a high =
-    λ faces k a high leaf calm. let there = leaf.there in c.loop-node.invariant.sides faces k a high (omega arith) leaf calm in
+    let new = c.correct_arrays.new.world in
+    let done = c.correct_arrays.ensures in
     record {
-      only = steps.only;
-      fit = steps.fit;
-      field = field_after g.row.N g.row.G old now valid steps sides;
-      places = numbers_after g.row.N g.row.G old now valid steps sides;
-      small = tame_small now steps.tame;
+      only = done.only;
+      fit = done.fit;
+      field = λ field holds. field_after true old new done.valid done.only.told field (done.places (named old.told.grid.shape field) (calm_of true old (named old.told.grid.shape field) (holds_has true old field holds)));
+      places = λ faces has. done.places faces (calm_of true old faces has);
+      small = tame_small true new done.tame;
     }

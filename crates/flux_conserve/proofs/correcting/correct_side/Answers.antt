@@ -10,7 +10,7 @@ take_sums-requires g c =
     let valid : Valid w.told.grid = subst Valid c.tree-tree.ensures (known c.tree-tree.result.now).valid in
     let finer = finer_told _ w.told.grid c.args.axis c.args.high c.args.node c.in-Some.beside c.at.result c.tree-tree.ensures c.at.ensures.value c.in-Some.ensures in (
       lit< tt,
-      (c.requires.fit, (c.requires.leaf, (finer, near_within w valid c.args.node c.args.axis c.args.high c.in-Some.beside c.requires.leaf finer c.requires.tame))),
+      (c.requires.fit, (c.requires.declared, (c.requires.leaf, (finer, near_within c.args.work w valid c.args.node c.args.axis c.args.high c.in-Some.beside c.requires.leaf finer c.requires.tame)))),
     )
 
 pub returns-in-Some : goal.returns-in-Some
@@ -19,6 +19,6 @@ returns-in-Some g c =
     let valid : Valid w.told.grid = subst Valid c.tree-tree.ensures (known c.tree-tree.result.now).valid in
     let finer = finer_told _ w.told.grid c.args.axis c.args.high c.args.node c.in-Some.beside c.at.result c.tree-tree.ensures c.at.ensures.value c.in-Some.ensures in
     record {
-      summed = summed g.row.N g.row.G w c.take_sums.new.world valid c.args.node c.args.axis c.args.high c.in-Some.beside c.requires.leaf finer c.take_sums.ensures c.requires.tame;
-      side = side_summed g.row.N g.row.G w c.take_sums.new.world valid c.args.node c.args.axis c.args.high c.in-Some.beside c.requires.leaf finer c.take_sums.ensures c.requires.tame;
+      summed = summed c.args.work g.row.N g.row.G w c.take_sums.new.world valid c.args.node c.args.axis c.args.high c.in-Some.beside c.requires.leaf finer c.take_sums.ensures c.requires.tame;
+      side = side_summed c.args.work g.row.N g.row.G w c.take_sums.new.world valid c.args.node c.args.axis c.args.high c.in-Some.beside c.requires.leaf finer c.take_sums.ensures c.requires.tame;
     }

@@ -36,7 +36,7 @@ loop-quarter-preserved g c =
         | inr more ↦ (
             let last : q ≡ k = omega arith in
             ap (λ u. at c.sum_child.new.sums (quarter_size n * u + m)) last ∙ row.here m hm
-            ∙ four_near n g.row.G w c.args.axis c.args.high c.args.beside k c.in-Some.child (m % half) (m / half) faces c.requires.fit.sizes near c.loop-quarter-test.true number size (rest_below n m size)
+            ∙ four_near c.args.work n g.row.G w c.args.axis c.args.high c.args.beside k c.in-Some.child (m % half) (m / half) faces c.requires.fit.sizes near c.loop-quarter-test.true number size (rest_below n m size)
             (quotient_below m half half (omega arith) hm)
             ∙ ap (λ u. quarter_sum n faces c.args.axis c.args.high (block_at w.told.grid c.args.beside) u (m % half) (m / half)) (sym last))
       ];

@@ -1,26 +1,16 @@
-use Rattle.std.proofs.Common.{rules, to_z, of_z, w64, ◌≡◌, ◌<◌, ◌≤◌, ◌+◌, ◌*◌, ℕ, ℤ, List, None, Some, Option, false, sym, ap, ap₂, subst, ◌∙◌}
-use Rattle.std.specs.Option.{option_map}
+use Rattle.std.proofs.Common.{rules, to_z, of_z, w64, ◌≡◌, ◌≤◌, ◌+◌, None, Some, sym, ap, ap₂, subst, ◌∙◌}
 use Rattle.amr_num.specs.declared.Axis.TheVariants.{X, Y, Z}
-use Rattle.amr_num.specs.declared.BlockAt.{BlockAt}
 use Rattle.mesh_model.specs.declared.geometry.Shape.{Shape}
 use Rattle.mesh_model.specs.Fields.ArrayPlaces.{face_extents, number_at}
+use Rattle.mesh_model.specs.Fields.Arrays.{array_in}
+use Rattle.mesh_model.specs.Fields.Ranks.{rank_at}
 use Rattle.mesh_model.specs.Geometry.Blocks.{InDomain}
-use Rattle.mesh_model.specs.Geometry.Canonical.{canonical_on}
-use Rattle.mesh_model.specs.Geometry.Coordinates.{face_of}
-use Rattle.mesh_model.specs.Geometry.Places.{in_block}
-use Rattle.mesh_model.specs.Tree.Kinds.{Grid, is_split_block}
+use Rattle.mesh_model.specs.Tree.Kinds.{Grid}
 use Rattle.mesh_model.specs.Tree.ValidGrid.{Valid}
-use Rattle.mesh_model.proofs.TreeLemmas.Tests.{refuted}
-use Rattle.block_store.specs.Above.{first_in_faces}
-use Rattle.block_store.specs.declared.above.Above.{Above}
-use Rattle.block_store.specs.declared.above.CountedFaces.{CountedFaces}
 use Rattle.block_tree.specs.GridOf.{grid_of}
 use Rattle.block_tree.specs.Numbered.{block_at}
 use Rattle.block_tree.proofs.Facts.{known}
-use Rattle.block_tree.proofs.Leaves.{split_leaf}
-use Rattle.rank_world.specs.FaceRange.{CountLeafFaces, HasAxis, axis_above}
-use Rattle.rank_world.specs.Holding.{IsLeafNode, face_array}
-use Rattle.rank_world.specs.declared.faces.FaceAbove.{FaceAbove}
+use Rattle.rank_world.specs.FaceRange.{CountLeafFaces}
 use Rattle.rank_world.proofs.FaceRange.{at_most, axis_found, named_as}
 use Rattle.rank_world.proofs.Found.{face_inside, small_block}
 use Rattle.rank_world.proofs.faces.axis_above.Goals as goal
@@ -48,7 +38,7 @@ returns-in-None g c field has =
     subst (λ (h : Grid). InDomain h.shape (block_at h c.args.node)) tree (subst (λ d. InDomain (grid_of c.tree-tree.result.now).shape d) c.at-block.ensures.value c.at-block.ensures.inside) in
     let counts : CountLeafFaces w.told.grid (block_at w.told.grid c.args.node) f =
     subst (λ (h : Grid). CountLeafFaces h (block_at h c.args.node) f) tree (subst (λ d. CountLeafFaces (grid_of c.tree-tree.result.now) d f) c.at-block.ensures.value c.leaf_faces-faces.ensures.counts) in
-    axis_found g.row.N g.row.G w c.args.axis c.args.node c.requires.fit valid c.requires.leaf inside f c.leaf_faces-faces.ensures.axis counts c.values.result.now c.values.ensures.value field has
+    axis_found c.args.work g.row.N g.row.G w c.args.axis c.args.node c.requires.fit valid c.requires.leaf inside f c.leaf_faces-faces.ensures.axis counts c.values.result.now (c.values.ensures.value ∙ ap (λ v. array_in (rank_at w 0).own.values v c.args.node) c.face_var.ensures.value) field has
     None (sym c.in-None.is ∙ c.faces_above.ensures)
 
 pub returns-in-Some : goal.returns-in-Some
@@ -68,5 +58,5 @@ returns-in-Some g c field has =
     let value : to_z w64 (of_z w64 found.value) ≡ found.value = search rules in
     ap₂ (λ at v. Some (record { face = at; value = v }))
     (c.name_of.ensures ∙ named_as c.shape-shape.result w.told.grid.shape c.args.axis f.axis c.at-block.result b found.i found.j found.k shape (sym c.leaf_faces-faces.ensures.axis) block) value
-    ∙ axis_found g.row.N g.row.G w c.args.axis c.args.node c.requires.fit valid c.requires.leaf inside f c.leaf_faces-faces.ensures.axis counts c.values.result.now c.values.ensures.value field has
+    ∙ axis_found c.args.work g.row.N g.row.G w c.args.axis c.args.node c.requires.fit valid c.requires.leaf inside f c.leaf_faces-faces.ensures.axis counts c.values.result.now (c.values.ensures.value ∙ ap (λ v. array_in (rank_at w 0).own.values v c.args.node) c.face_var.ensures.value) field has
     (Some found) (sym c.in-Some.is ∙ c.faces_above.ensures)

@@ -1,6 +1,6 @@
-use Rattle.std.proofs.Common.{◌≡◌, ◌^◌, ◌<◌, List, ℤ, length, refl, ap, subst, ◌∙◌, inl}
+use Rattle.std.proofs.Common.{◌≡◌, ◌^◌, ◌<◌, false, List, ℤ, length, refl, ap, subst, ◌∙◌, inl}
 use Rattle.amr_num.specs.declared.Axis.TheVariants.{X}
-use Rattle.mesh_model.specs.declared.fields.values.Var.TheVariants.{FaceWork}
+use Rattle.mesh_model.specs.declared.fields.values.Var.TheVariants.{Face}
 use Rattle.mesh_model.specs.Fields.ArrayPlaces.{IsSize}
 use Rattle.mesh_model.specs.Fields.Arrays.{var_length}
 use Rattle.mesh_model.specs.Tree.Kinds.{Grid}
@@ -8,8 +8,8 @@ use Rattle.mesh_model.specs.Tree.Order.{nodes}
 use Rattle.mesh_model.proofs.FieldLemmas.Worlds.{fit_after, has_array}
 use Rattle.block_tree.specs.Numbered.{IsNode}
 use Rattle.rank_world.specs.Puts.{IsPut}
-use Rattle.flux_conserve.proofs.Puts.{put_small}
-use Rattle.flux_conserve.proofs.tests.set_work.Goals as goal
+use Rattle.flux_conserve.proofs.Puts.{has_one, put_small}
+use Rattle.edge_average.proofs.tests.set_face.Goals as goal
 
 size : IsSize 4 1
 size = record { cells = inl refl; guards = inl refl }
@@ -18,11 +18,12 @@ pub returns-then-node-len-clause-fit : goal.returns-then-node-len-clause-fit
 returns-then-node-len-clause-fit c =
     let w = c.args.world.now in
     let there : IsNode w.told.grid c.args.node = subst (λ m. c.args.node < m) (c.len.ensures.value ∙ ap (λ (h : Grid). length (nodes h.leaves)) c.tree.ensures) c.if-node-len.true in
-    fit_after w (FaceWork X) c.args.node c.put.new.values c.requires.fit.one 4 1 size c.requires.fit (has_array 4 1 w (FaceWork X) c.args.node c.requires.fit there tt)
+    fit_after w (Face X) c.args.node c.put.new.values c.requires.fit.one 4 1 size c.requires.fit (has_array 4 1 w (Face X) c.args.node c.requires.fit there (has_one false X w.told.counts c.requires.declared))
 
 pub returns-then-node-len-clause-small : goal.returns-then-node-len-clause-small
 returns-then-node-len-clause-small c =
     let w = c.args.world.now in
     let there : IsNode w.told.grid c.args.node = subst (λ m. c.args.node < m) (c.len.ensures.value ∙ ap (λ (h : Grid). length (nodes h.leaves)) c.tree.ensures) c.if-node-len.true in
-    let long : length c.put.new.values ≡ var_length 4 1 (FaceWork X) = c.put.ensures.size ∙ c.values_mut.ensures.whole in
-    put_small 4 1 w X c.args.node c.put.new.values size c.requires.fit there long (subst (λ (xs : List ℤ). IsPut (2 ^ 56) xs c.put.new.values) c.values_mut.ensures.value c.put.ensures) c.requires.small
+    let long : length c.put.new.values ≡ var_length 4 1 (Face X) = c.put.ensures.size ∙ c.values_mut.ensures.whole in
+    put_small false false 4 1 w X c.args.node c.put.new.values size c.requires.fit (has_one false X w.told.counts c.requires.declared) there long
+    (subst (λ (xs : List ℤ). IsPut (2 ^ 56) xs c.put.new.values) c.values_mut.ensures.value c.put.ensures) c.requires.small
