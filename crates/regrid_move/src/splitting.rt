@@ -117,6 +117,7 @@ fn keep_sides<const N: usize, const G: usize>(
 ) -> Sides
     requires fit { IsFit N G old.now }
     requires declared { 0 < old.now.told.counts.faces }
+    requires mesh { IsOfValidMesh old.now }
     requires block { InDomain old.now.told.grid.shape block }
     requires to { length to.old ≡ size_of (face_extents N G axis) }
     ensures size { length to.new ≡ length to.old }
@@ -200,6 +201,7 @@ fn put_axis<const N: usize, const G: usize>(
     node: u32,
     values: &[i64],
 )
+    requires size { IsSize N G }
     requires fit { IsFit N G new.old }
     requires declared { 0 < new.old.told.counts.faces }
     requires node { IsNode new.old.told.grid node }
