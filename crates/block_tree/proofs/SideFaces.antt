@@ -102,24 +102,24 @@ module _ (s : Shape) (a : Axis) (b : BlockAt) (q r : ℕ) (some : 0 < s.n) (insi
   here : block_on a b < roots s a * 2 ^ b.level
   here = block_on_inside s a b inside
 
-  low_outside : low_cell s (face_name s a b 0 q r) ≡ option_map (λ d. cell s.n a d (s.n - 1) q r) (block_beside s a false b)
+  pub low_outside : low_cell s (face_name s a b 0 q r) ≡ option_map (λ d. cell s.n a d (s.n - 1) q r) (block_beside s a false b)
   unfolding block_beside
   low_outside =
       low_is s a b 0 q r ∙ ap (λ o. moved a o (cell s.n a b 0 q r)) (below_low (is_periodic s a) (roots s a * 2 ^ b.level) s.n (block_on a b) some here)
       ∙ cell_beside s.n a b (below (is_periodic s a) (roots s a * 2 ^ b.level) (block_on a b)) 0 (s.n - 1) q r
 
-  high_outside : high_cell s (face_name s a b s.n q r) ≡ option_map (λ d. cell s.n a d 0 q r) (block_beside s a true b)
+  pub high_outside : high_cell s (face_name s a b s.n q r) ≡ option_map (λ d. cell s.n a d 0 q r) (block_beside s a true b)
   unfolding block_beside
   high_outside =
       high_is s a b s.n q r ∙ ap (λ o. moved a o (cell s.n a b s.n q r)) (above_high (is_periodic s a) (roots s a * 2 ^ b.level) s.n (block_on a b) some here)
       ∙ cell_beside s.n a b (above (is_periodic s a) (roots s a * 2 ^ b.level) (suc (block_on a b))) s.n 0 q r
 
-  low_inside : (p : ℕ) → p < s.n → low_cell s (face_name s a b (suc p) q r) ≡ Some (cell s.n a b p q r)
+  pub low_inside : (p : ℕ) → p < s.n → low_cell s (face_name s a b (suc p) q r) ≡ Some (cell s.n a b p q r)
   low_inside p h =
       low_is s a b (suc p) q r ∙ ap (λ o. moved a o (cell s.n a b (suc p) q r)) (below_own (is_periodic s a) (roots s a * 2 ^ b.level) s.n (block_on a b) some here p h)
       ∙ ap Some (own_cell s.n a b (suc p) p q r)
 
-  high_inside : (p : ℕ) → p < s.n → high_cell s (face_name s a b p q r) ≡ Some (cell s.n a b p q r)
+  pub high_inside : (p : ℕ) → p < s.n → high_cell s (face_name s a b p q r) ≡ Some (cell s.n a b p q r)
   high_inside p h =
       high_is s a b p q r ∙ ap (λ o. moved a o (cell s.n a b p q r)) (above_own (is_periodic s a) (roots s a * 2 ^ b.level) s.n (block_on a b) some here p h)
       ∙ ap Some (own_cell s.n a b p p q r)

@@ -5,3 +5,5 @@ pub mod Regridded
 pub mod Steps
 pub mod Stops
 pub mod Puts
+pub mod Keeps
+pub mod SideLeaves

@@ -1,28 +1,37 @@
 -- Leaves of the new grid: they are near old ones, and hold the regridded mesh.
-use Rattle.std.proofs.Common.{◌≡◌, ℕ, ◌+◌, ◌*◌, ◌<◌, ◌⊎◌, Bool, true, false, ℤ, pos, refl, sym, ap, subst, ◌∙◌, arith, inl, inr}
-use Rattle.std.specs.Prelude.{if◌then◌else◌}
+use Rattle.std.proofs.Common.{◌≡◌, ℕ, ◌+◌, ◌*◌, ◌<◌, ◌⊎◌, Bool, true, false, ℤ, pos, refl, sym, ap, ap₂, subst, ◌∙◌, arith, inl, inr}
+use Rattle.std.specs.Prelude.{if◌then◌else◌, ◌&&◌}
+use Rattle.amr_num.specs.declared.Axis.{Axis}
 use Rattle.amr_num.specs.declared.BlockAt.{BlockAt}
 use Rattle.amr_num.specs.declared.CellAt.{CellAt}
+use Rattle.amr_num.specs.declared.FaceAt.{FaceAt}
 use Rattle.mesh_model.specs.Geometry.Blocks.{child_block, parent_block}
 use Rattle.mesh_model.specs.Tree.Order.{IsIn}
-use Rattle.mesh_model.specs.Fields.ArrayPlaces.{HoldsViews}
+use Rattle.mesh_model.specs.Fields.ArrayPlaces.{HoldsFaces, HoldsViews}
+use Rattle.mesh_model.specs.Fields.FinePlaces.{faces_in}
+use Rattle.mesh_model.specs.Geometry.Canonical.{canonical_on}
+use Rattle.mesh_model.specs.Geometry.Coordinates.{face_of}
 use Rattle.mesh_model.specs.Tree.Kinds.{Grid, is_leaf, is_leaf_block, is_split}
 use Rattle.mesh_model.specs.Fields.Plain.{marked, Mesh, on_cells}
 use Rattle.mesh_model.specs.Geometry.Places.{in_block}
 use Rattle.mesh_model.specs.Tree.Regrown.{new_grid, regrown}
 use Rattle.mesh_model.specs.Fields.Regrid.{regrid}
 use Rattle.mesh_model.specs.Tree.ValidGrid.{Valid}
-use Rattle.mesh_model.specs.Fields.Views.{cell_view}
+use Rattle.mesh_model.specs.Fields.Views.{cell_view, face_view}
 use Rattle.mesh_model.specs.Fields.Ranks.{WorldState}
 use Rattle.mesh_model.proofs.FieldLemmas.BlockOctants.{block_of_cell}
+use Rattle.mesh_model.proofs.FieldLemmas.CellKinds.{kinds_of_tiles, wide_of}
 use Rattle.mesh_model.proofs.FieldLemmas.CellSums.{view_leaf}
+use Rattle.mesh_model.proofs.FieldLemmas.LeafFaces.{face_adds, view_is}
 use Rattle.mesh_model.proofs.TreeLemmas.Closure.{parent_of_child}
 use Rattle.mesh_model.proofs.TreeLemmas.Regrown.{new_source}
 use Rattle.mesh_model.proofs.TreeLemmas.Tiling.{leaf_says}
 use Rattle.mesh_model.proofs.FieldLemmas.ValidGrid.{leaf_whole}
 use Rattle.block_tree.specs.Growing.{MayRegrow}
 use Rattle.block_tree.specs.Numbered.{block_at}
-use Rattle.rank_world.specs.Holding.{IsLeafNode, LeavesHold, numbers_of}
+use Rattle.rank_world.specs.Holding.{IsLeafNode, LeavesHold, LeavesHoldFaces, face_array, numbers_of}
+use Rattle.rank_world.proofs.FaceBlocks.{leaf_face_seen}
+use Rattle.regrid_move.specs.FaceMoves.{LeafFacesMoved}
 use Rattle.regrid_move.specs.Near.{AreNear, IsNear, LeavesMoved}
 
 -- each leaf of the new grid is near
@@ -64,3 +73,29 @@ new_leaves now new m v old_is new_is valid moved node leaf =
     let xs = numbers_of new v node in
     let here = subst (λ h. HoldsViews h (m.cells v) b xs) old_is (moved node leaf) in
     subst (λ h. HoldsViews h ((regrid m).cells v) b xs) (sym new_is) (moved_holds m v b xs valid (subst (λ h. is_leaf_block h b ≡ true) new_is leaf.leaf) here)
+
+-- ---- faces
+
+-- a leaf of the new grid whose faces hold the old views has the new mesh's on them
+pub moved_holds_faces : (m : Mesh) (a : Axis) (b : BlockAt) (numbers : ℕ → ℕ → ℕ → ℤ) → Valid m.grid → Valid (new_grid (marked m)) → is_leaf_block (new_grid (marked m)) b ≡ true →
+    HoldsFaces m.grid m.faces a b numbers → HoldsFaces (new_grid (marked m)) (regrid m).faces a b numbers
+moved_holds_faces m a b numbers before valid leaf moved = record {
+  at = λ i j k hi hj hk.
+      let g = new_grid (marked m) in
+      let s = m.grid.shape in
+      let old = λ (f : FaceAt). face_view m.grid m.faces f in
+      let seen = leaf_face_seen g valid a b leaf i j k hi hj hk in
+      moved.at i j k hi hj hk
+      ∙ sym (view_is g (kinds_of_tiles g valid.tiles valid.shape) valid.shape (wide_of s valid.shape) (regrid m).faces old
+      (λ f canonical is. ap (λ t. if t then face_view m.grid m.faces f else pos 0) (ap₂ (λ p q. p && q) canonical is))
+      (λ f split. face_adds m.grid (kinds_of_tiles m.grid before.tiles before.shape) before.shape (wide_of s before.shape) m.faces f)
+      (face_of a (canonical_on s a (in_block s.n b i j k))) seen);
+}
+
+pub new_face_leaves : (now new : WorldState) (m : Mesh) → now.told.grid ≡ m.grid → new.told.grid ≡ new_grid (marked m) → Valid m.grid → Valid (new_grid (marked m)) → LeafFacesMoved now new m.faces → LeavesHoldFaces new (regrid m).faces
+new_face_leaves now new m old_is new_is before valid moved node leaf a =
+    let b = block_at new.told.grid node in
+    let xs = face_array new a node in
+    let here = subst (λ h. HoldsFaces h m.faces a b (faces_in h a xs)) old_is (moved node leaf a) in
+    subst (λ h. HoldsFaces h (regrid m).faces a b (faces_in h a xs)) (sym new_is)
+    (moved_holds_faces m a b (faces_in m.grid a xs) before valid (subst (λ h. is_leaf_block h b ≡ true) new_is leaf.leaf) here)

@@ -1,12 +1,14 @@
 -- The faces of new leaves, from those of old ones.
-use Rattle.std.specs.Prelude.{◌≡◌, ℕ, ◌<◌, Option, None, if◌then◌else◌, ℤ}
-use Rattle.std.specs.Option.{option_map}
+use Rattle.std.specs.Prelude.{◌≡◌, ℕ, ◌<◌, nat_lt, length, Option, None, if◌then◌else◌, ℤ}
+use Rattle.std.specs.Option.{option_map, option_or}
 use Rattle.amr_num.specs.declared.Axis.{Axis}
 use Rattle.amr_num.specs.declared.BlockAt.{BlockAt}
+use Rattle.amr_num.specs.declared.CellAt.{CellAt}
 use Rattle.amr_num.specs.declared.FaceAt.{FaceAt}
 use Rattle.mesh_model.specs.Tree.Kinds.{Grid, is_leaf_block}
+use Rattle.mesh_model.specs.Tree.Order.{nodes}
 use Rattle.mesh_model.specs.Fields.ArrayPlaces.{HoldsFaces}
-use Rattle.mesh_model.specs.Fields.Arrays.{array_in}
+use Rattle.mesh_model.specs.Fields.Arrays.{Counts, array_in}
 use Rattle.mesh_model.specs.Fields.FinePlaces.{FaceOctantHolds, faces_in}
 use Rattle.mesh_model.specs.Fields.Firsts.{first_below}
 use Rattle.mesh_model.specs.Fields.Ranks.{IsFit, WorldState, rank_at}
@@ -17,7 +19,7 @@ use Rattle.mesh_model.specs.declared.fields.values.Group.TheVariants as groups
 use Rattle.mesh_model.specs.declared.fields.spot.RangeStop.{RangeStop}
 use Rattle.mesh_model.specs.declared.fields.spot.Spot.TheVariants as spots
 use Rattle.block_tree.specs.Numbered.{block_at}
-use Rattle.regrid_move.specs.Near.{AreNear}
+use Rattle.regrid_move.specs.Near.{AreNear, all_stop}
 use Rattle.rank_world.specs.FaceRange.{first_above}
 use Rattle.rank_world.specs.declared.faces.FaceAbove.{FaceAbove}
 use Rattle.rank_world.specs.Holding.{IsLeafNode, IsOfValidMesh, face_array}
@@ -81,3 +83,9 @@ node_face_stop old new field node = if is_leaf_block new (block_at new node) the
 
 abbrev pub faces_stop : Grid → Grid → (FaceAt → ℤ) → ℕ → Option RangeStop
 faces_stop old new field count = first_below count (node_face_stop old new field)
+
+-- ---- of all variables: cells first, then faces where they are declared
+
+abbrev pub values_stop : Grid → Grid → (ℕ → CellAt → ℤ) → (FaceAt → ℤ) → Counts → Option RangeStop
+values_stop old new contents field counts =
+    option_or (all_stop old new contents counts.cells) (if nat_lt 0 counts.faces then faces_stop old new field (length (nodes new.leaves)) else None)

@@ -2,3 +2,4 @@ pub mod Near
 pub mod Regrids
 pub mod Tried
 pub mod FaceMoves
+pub mod FaceKeeps

@@ -1,15 +1,20 @@
 //! A world on the tree after refining and merging.
 
+ghost use Rattle.amr_num.specs.declared.CellAt.{CellAt};
+ghost use Rattle.amr_num.specs.declared.FaceAt.{FaceAt};
 ghost use Rattle.block_tree.specs.Growing.{MayRegrow};
 ghost use Rattle.mesh_model.specs.Fields.Plain.{Mesh};
 ghost use Rattle.mesh_model.specs.Fields.Ranks.{IsFit};
-ghost use Rattle.rank_world.specs.Holding.{LeavesInRange};
+ghost use Rattle.rank_world.specs.Holding.{IsOfValidMesh, LeavesHold, LeavesHoldFaces, LeavesInRange};
 ghost use Rattle.refine_marks.specs.Flags.{IsOnePerNode};
 ghost use Rattle.refine_marks.specs.Planned.{merged_by, refined_by};
+ghost use Rattle.regrid_move.specs.FaceMoves.{LeafFacesMoved, values_stop};
+ghost use Rattle.regrid_move.specs.Near.{LeavesMoved, MayMoveAll};
 ghost use Rattle.regrid_move.specs.Regrids.{AreOfMesh, IsRegridStop, IsRegridded, of_growth};
-ghost use Rattle.std.specs.Prelude.{◌≡◌, IfErr, OnErr, OnOk};
+ghost use Rattle.std.specs.Prelude.{◌≡◌, ◌<◌, ℕ, ℤ, None, IfErr, OnErr, OnOk};
 
 use crate::moving::move_all;
+use crate::ranging::move_face_variable;
 use amr_num::OutOfMemory;
 use block_tree::GrowStop;
 use mesh_model::RangeStop;
@@ -38,6 +43,31 @@ fn no_tree(stop: GrowStop) -> RegridStop
     }
 }
 
+/// Writes the old views of all variables into each leaf of the new tree, up to the first that is out of range: cells
+/// first, then faces where a face variable is declared.
+fn move_values<const N: usize, const G: usize>(
+    old: &World<N, G>,
+    new: &mut World<N, G>,
+) -> Option<RangeStop>
+    requires may { MayMoveAll N G old.now new.old }
+    requires mesh { IsOfValidMesh old.now }
+    ensures told { new.new.told ≡ new.old.told }
+    ensures fit { IsFit N G new.new }
+    ensures cells { result ≡ None → (v : ℕ) (content : CellAt → ℤ) → v < old.now.told.counts.cells → LeavesHold old.now v content
+        → LeavesMoved old.now new.new v content }
+    ensures faces { result ≡ None → 0 < old.now.told.counts.faces → (field : FaceAt → ℤ) → LeavesHoldFaces old.now field
+        → LeafFacesMoved old.now new.new field }
+    ensures stop { (contents : ℕ → CellAt → ℤ) (field : FaceAt → ℤ) → ((v : ℕ) → v < old.now.told.counts.cells → LeavesHold old.now v (contents v))
+        → (0 < old.now.told.counts.faces → LeavesHoldFaces old.now field)
+        → result ≡ values_stop old.now.told.grid new.new.told.grid contents field old.now.told.counts }
+{
+    let stop = move_all(old, new);
+    if stop.is_some() || old.layout().faces == 0 {
+        return stop;
+    }
+    move_face_variable(old, new)
+}
+
 /// Puts a world on the new tree in place of one on the old. A refusal leaves the old one.
 pub fn regrid<const N: usize, const G: usize>(
     alloc: Global,
@@ -45,7 +75,8 @@ pub fn regrid<const N: usize, const G: usize>(
     plan: &Plan,
 ) -> Result<(), RegridStop>
     requires fit { IsFit N G world.old }
-    requires cells { (world.old.told.counts.faces ≡ 0) × (world.old.told.counts.edges ≡ 0) }
+    requires edges { world.old.told.counts.edges ≡ 0 }
+    requires mesh { IsOfValidMesh world.old }
     requires range { LeavesInRange world.old }
     requires refine { IsOnePerNode world.old.told.grid plan.now.refine.items }
     requires merge { IsOnePerNode world.old.told.grid plan.now.merge.items }
@@ -63,7 +94,7 @@ pub fn regrid<const N: usize, const G: usize>(
         Ok(new) => new,
         Err(OutOfMemory) => return Err(RegridStop::OutOfMemory),
     };
-    match move_all(world, &mut new) {
+    match move_values(world, &mut new) {
         Some(stop) => Err(RegridStop::Range(stop)),
         None => {
             *world = new;

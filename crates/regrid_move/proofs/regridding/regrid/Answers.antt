@@ -1,4 +1,8 @@
-use Rattle.std.proofs.Common.{◌≡◌, ◌<◌, ◌∙◌, ap, ap₂, subst, sym, ℕ, Bool, List, Option, None, Some, length, arith}
+use Rattle.std.proofs.Common.{◌≡◌, ◌<◌, ◌∙◌, ap, ap₂, refl, subst, sym, ℕ, zero, suc, Bool, List, pos, Option, None, Some, length, arith}
+use Rattle.std.specs.Prelude.{if◌then◌else◌, nat_lt}
+use Rattle.std.specs.Option.{option_or}
+use Rattle.std.proofs.lemmas.Bool.{lt-ltb}
+use Rattle.amr_num.specs.declared.FaceAt.{FaceAt}
 use Rattle.mesh_model.specs.Fields.Arrays.{Counts}
 use Rattle.mesh_model.specs.Tree.Order.{nodes}
 use Rattle.mesh_model.specs.Tree.Kinds.{Grid}
@@ -16,10 +20,13 @@ use Rattle.block_tree.proofs.Facts.{known}
 use Rattle.refine_marks.specs.Planned.{merged_by, refined_by}
 use Rattle.refine_marks.specs.declared.plan.Plan.{Plan}
 use Rattle.mesh_model.specs.declared.fields.spot.RangeStop.{RangeStop}
+use Rattle.mesh_model.specs.Fields.Valid.{ValidMesh}
+use Rattle.rank_world.specs.Holding.{IsOfMesh}
+use Rattle.regrid_move.specs.FaceMoves.{faces_stop, values_stop}
 use Rattle.regrid_move.specs.Near.{AreNear, all_stop}
 use Rattle.regrid_move.specs.Regrids.{AreOfMesh, IsRegridStop, first_moved_excess, of_growth}
-use Rattle.regrid_move.proofs.Excess.{excess_is}
-use Rattle.regrid_move.proofs.Regridded.{near_after, new_leaves}
+use Rattle.regrid_move.proofs.Excess.{excess_is, no_faces_stop}
+use Rattle.regrid_move.proofs.Regridded.{near_after, new_face_leaves, new_leaves}
 use Rattle.regrid_move.proofs.regridding.regrid.Goals as goal
 
 after_same : (g h : Grid) (a b c d : List Bool) → g ≡ h → a ≡ b → c ≡ d → grid_after g a c ≡ grid_after h b d
@@ -38,69 +45,84 @@ returns-in-Err-clause-stop g c m of =
     let same = after_same _ _ _ _ _ _ c.tree.ensures c.deref.ensures.value c.deref-2.ensures.value in
     subst (λ s. IsRegridStop m s) (sym c.no_tree.ensures) (grown c.args.world.now c.args.plan.now m of c.in-Err.stop (subst (λ h. IsGrowStop h c.in-Err.stop) same c.in-Err.ensures.stop))
 
-pub move_all-requires : goal.move_all-requires
-move_all-requires g c =
+pub move_values-requires : goal.move_values-requires
+move_values-requires g c =
     let now = c.args.world.now in
     let same = after_same _ _ _ _ _ _ c.tree.ensures c.deref.ensures.value c.deref-2.ensures.value in
     let new_is = c.in-Ok-on_tree.ensures.grid_is ∙ c.in-Ok.ensures.tree ∙ same in
     let near = near_after now.told.grid (refined_by now.told.grid c.args.plan.now) (merged_by now.told.grid c.args.plan.now) c.requires.may in (
       omega arith,
-      record {
-        old_fit = c.requires.fit;
-        new_fit = c.in-Ok-on_tree.ensures.fit;
-        counts = c.in-Ok-on_tree.ensures.counts_are ∙ c.layout.ensures;
-        near = subst (λ h. AreNear now.told.grid h) (sym new_is) near;
-        range = c.requires.range;
-      },
+      (
+        record {
+            old_fit = c.requires.fit;
+            new_fit = c.in-Ok-on_tree.ensures.fit;
+            counts = c.in-Ok-on_tree.ensures.counts_are ∙ c.layout.ensures;
+            near = subst (λ h. AreNear now.told.grid h) (sym new_is) near;
+            range = c.requires.range;
+          },
+        c.requires.mesh,
+      ),
     )
 
+-- faces that are not declared are not walked
+declared_faces : (n count : ℕ) (m : Mesh) (g : Grid) → (n ≡ 0 → (f : FaceAt) → m.faces f ≡ pos 0) → (if nat_lt 0 n then faces_stop m.grid g m.faces count else None) ≡ faces_stop m.grid g m.faces count
+declared_faces zero count m g none = sym (no_faces_stop m.grid g m.faces count (none refl))
+declared_faces (suc n) count m g none = ap (λ (t : Bool). if t then faces_stop m.grid g m.faces count else None) (lt-ltb 0 (suc n) (omega arith))
+
 -- the first number that is moved and out of range is that of the mesh
-first_of : (now : WorldState) (g : Grid) (m : Mesh) (r : Option RangeStop) → now.told.grid ≡ m.grid → now.told.counts.cells ≡ length m.names.cells → g ≡ new_grid (marked m) →
-    all_stop now.told.grid g m.cells now.told.counts.cells ≡ r → first_moved_excess m ≡ r
-first_of now g m r grid cells new is =
-    subst (λ n. all_stop m.grid (new_grid (marked m)) m.cells n ≡ r) cells
-    (subst (λ h. all_stop h (new_grid (marked m)) m.cells now.told.counts.cells ≡ r) grid (subst (λ h. all_stop now.told.grid h m.cells now.told.counts.cells ≡ r) new is))
+first_of : (now : WorldState) (g : Grid) (m : Mesh) (r : Option RangeStop) → ValidMesh m → IsOfMesh now m → g ≡ new_grid (marked m) →
+    values_stop now.told.grid g m.cells m.faces now.told.counts ≡ r → first_moved_excess m ≡ r
+first_of now g m r valid of new is =
+    let h = new_grid (marked m) in
+    let walked = λ (n : ℕ). option_or (all_stop m.grid h m.cells n) (if nat_lt 0 now.told.counts.faces then faces_stop m.grid h m.faces (length (nodes h.leaves)) else None) in
+    ap (option_or (all_stop m.grid h m.cells (length m.names.cells))) (sym (declared_faces now.told.counts.faces (length (nodes h.leaves)) m h (λ zero. valid.declared.faces (of.faces.0 zero))))
+    ∙ ap walked (sym of.cells)
+    ∙ ap₂ (λ u v. values_stop u v m.cells m.faces now.told.counts) (sym of.grid) (sym new) ∙ is
 
 pub returns-in-Some-clause-stop : goal.returns-in-Some-clause-stop
 returns-in-Some-clause-stop g c m of =
     let now = c.args.world.now in
-    let new = c.move_all.new.new in
+    let new = c.move_values.new.new in
     let same = after_same _ _ _ _ _ _ c.tree.ensures c.deref.ensures.value c.deref-2.ensures.value in
     let after = same ∙ along now c.args.plan.now m of in
     let tree_is : grid_of c.in-Ok.tree ≡ new_grid (marked m) = c.in-Ok.ensures.tree ∙ after in
     let moved_is : c.in-Ok-on_tree.new.told.grid ≡ new_grid (marked m) = c.in-Ok-on_tree.ensures.grid_is ∙ tree_is in
-    let new_is : new.told.grid ≡ new_grid (marked m) = ap (λ (t : Told). t.grid) c.move_all.ensures.told ∙ moved_is in
+    let new_is : new.told.grid ≡ new_grid (marked m) = ap (λ (t : Told). t.grid) c.move_values.ensures.told ∙ moved_is in
     let valid : Valid (new_grid (marked m)) = subst Valid tree_is (known c.in-Ok.tree).valid in (
       subst FewNodes after c.in-Ok.ensures.few,
-      excess_is m of.valid (of.world.faces.0 c.requires.cells.0) (of.world.edges.0 c.requires.cells.1) valid
-          ∙ first_of now new.told.grid m (Some c.in-Some.stop) of.world.grid of.world.cells new_is (sym (c.move_all.ensures.stop m.cells of.world.contents) ∙ c.in-Some.is),
+      excess_is m of.valid (of.world.edges.0 c.requires.edges) valid
+          ∙ first_of now new.told.grid m (Some c.in-Some.stop) of.valid of.world new_is (sym (c.move_values.ensures.stop m.cells m.faces of.world.contents of.world.on_faces) ∙ c.in-Some.is),
     )
 
 pub returns-in-None-clause-mesh : goal.returns-in-None-clause-mesh
 returns-in-None-clause-mesh g c m of =
     let now = c.args.world.now in
-    let new = c.move_all.new.new in
+    let new = c.move_values.new.new in
     let same = after_same _ _ _ _ _ _ c.tree.ensures c.deref.ensures.value c.deref-2.ensures.value in
     let tree_is : grid_of c.in-Ok.tree ≡ new_grid (marked m) = c.in-Ok.ensures.tree ∙ same ∙ along now c.args.plan.now m of in
-    let told = c.move_all.ensures.told in
+    let told = c.move_values.ensures.told in
     let moved_is : c.in-Ok-on_tree.new.told.grid ≡ new_grid (marked m) = c.in-Ok-on_tree.ensures.grid_is ∙ tree_is in
     let new_is : new.told.grid ≡ new_grid (marked m) = ap (λ (t : Told). t.grid) told ∙ moved_is in
     let valid : Valid (new_grid (marked m)) = subst Valid tree_is (known c.in-Ok.tree).valid in
     let counts = ap (λ (t : Told). t.counts) told ∙ c.in-Ok-on_tree.ensures.counts_are ∙ c.layout.ensures in
     let cells : new.told.counts.cells ≡ now.told.counts.cells = ap (λ (k : Counts). k.cells) counts in
-    let none : c.move_all.result ≡ None = c.in-None.is in
+    let faces : new.told.counts.faces ≡ now.told.counts.faces = ap (λ (k : Counts). k.faces) counts in
+    let none : c.move_values.result ≡ None = c.in-None.is in
     record {
       few = subst FewNodes (same ∙ along now c.args.plan.now m of) c.in-Ok.ensures.few;
       in_range =
-          excess_is m of.valid (of.world.faces.0 c.requires.cells.0) (of.world.edges.0 c.requires.cells.1) valid
-          ∙ first_of now new.told.grid m None of.world.grid of.world.cells new_is (sym (c.move_all.ensures.stop m.cells of.world.contents) ∙ none);
+          excess_is m of.valid (of.world.edges.0 c.requires.edges) valid
+          ∙ first_of now new.told.grid m None of.valid of.world new_is (sym (c.move_values.ensures.stop m.cells m.faces of.world.contents of.world.on_faces) ∙ none);
       world = record {
         grid = new_is;
         cells = cells ∙ of.world.cells;
-        faces = (λ zero. of.world.faces.0 (sym (ap (λ (k : Counts). k.faces) counts) ∙ zero), λ none. ap (λ (k : Counts). k.faces) counts ∙ of.world.faces.1 none);
+        faces = (λ zero. of.world.faces.0 (sym faces ∙ zero), λ none. faces ∙ of.world.faces.1 none);
         edges = (λ zero. of.world.edges.0 (sym (ap (λ (k : Counts). k.edges) counts) ∙ zero), λ none. ap (λ (k : Counts). k.edges) counts ∙ of.world.edges.1 none);
         contents = λ v below.
             let here : v < now.told.counts.cells = subst (λ k. v < k) cells below in
-            new_leaves now new m v of.world.grid new_is valid (c.move_all.ensures.views none v (m.cells v) here (of.world.contents v here));
+            new_leaves now new m v of.world.grid new_is valid (c.move_values.ensures.cells none v (m.cells v) here (of.world.contents v here));
+        on_faces = λ some.
+            let declared : 0 < now.told.counts.faces = subst (λ k. 0 < k) faces some in
+            new_face_leaves now new m of.world.grid new_is of.valid.grid valid (c.move_values.ensures.faces none declared m.faces (of.world.on_faces declared));
       };
     }
