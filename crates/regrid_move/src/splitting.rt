@@ -195,7 +195,7 @@ fn face_count(n: usize, g: usize, axis: Axis) -> usize
 }
 
 /// Gives a node's faces normal to an axis an array's numbers.
-fn put_axis<const N: usize, const G: usize>(
+pub(crate) fn put_axis<const N: usize, const G: usize>(
     new: &mut World<N, G>,
     axis: Axis,
     node: u32,
