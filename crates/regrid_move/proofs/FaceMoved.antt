@@ -138,7 +138,7 @@ sums_small n e w a b q node fit of some leaf child split there =
     let f = face_of a (canonical_on g.shape a (in_block g.shape.n b (half_at g.shape.n q + i) (half_at g.shape.n (q / 2) + j) (half_at g.shape.n (q / 4) + k))) in
     let along = face_along g.shape.n a in
     let size = valid.shape.cells in
-    let split_here : is_split_face g f ≡ true = split_face_there g valid a b split there (half_at g.shape.n q + i) (half_at g.shape.n (q / 2) + j) (half_at g.shape.n (q / 4) + k) 
+    let split_here : is_split_face g f ≡ true = split_face_there g valid a b split there (half_at g.shape.n q + i) (half_at g.shape.n (q / 2) + j) (half_at g.shape.n (q / 4) + k)
     (whole_below g.shape.n _ _ q i size along.x hi) (whole_below g.shape.n _ _ (q / 2) j size along.y hj) (whole_below g.shape.n _ _ (q / 4) k size along.z hk) in
     let small : Within (2 ^ 62) (face_view g m.faces f) = subst (λ h. Within (2 ^ 62) (face_view h m.faces f)) (sym of.world.grid) (split_face_small m of.valid f (subst (λ h. is_split_face h f ≡ true) of.world.grid split_here)) in
     subst (Within (2 ^ 62)) (sym (four_view g m.faces a b valid q (face_array w a node) views i j k hi hj hk)) small)

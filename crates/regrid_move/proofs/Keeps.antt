@@ -98,9 +98,10 @@ module _ (w : WorldState) (of : IsOfValidMesh w) (declared : 0 < w.told.counts.f
   unfolding Inner
   off_sides a = by_spot w.told.grid.shape (Inner a) (child_block b q) a
       (λ p u v hp hu hv off. (
-      calm a p u v hp hu hv,
-      no_leaf_face w.told.grid a (child_block b q) some inside (child_is_no_leaf w.told.grid (child_block b q) b (is_child b q) whole) u v hu hv p hp
-      (λ high at. (sides a high).none (off_kept w.told.grid.shape.n kept x y z bits a p off high at))))
+        calm a p u v hp hu hv,
+        no_leaf_face w.told.grid a (child_block b q) some inside (child_is_no_leaf w.told.grid (child_block b q) b (is_child b q) whole) u v hu hv p hp
+            (λ high at. (sides a high).none (off_kept w.told.grid.shape.n kept x y z bits a p off high at)),
+      ))
 
   leaf_face : (f : FaceAt) → is_split_face w.told.grid f ≡ false → Seen w.told.grid f → is_leaf_face w.told.grid f ≡ true
   unfolding Either

@@ -7,3 +7,4 @@ pub mod Stops
 pub mod Puts
 pub mod Keeps
 pub mod SideLeaves
+pub mod Uniform

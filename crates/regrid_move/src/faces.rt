@@ -36,7 +36,8 @@ fn copy_axis<const N: usize, const G: usize>(
     ensures views { (field : FaceAt → ℤ) → LeavesHoldFaces old.now field → AxisMoved old.now new.new field node axis }
 {
     let values = old.values(Var::Face(axis), from);
-    new.values_mut(Var::Face(axis), node).copy_from_slice(values);
+    new.values_mut(Var::Face(axis), node)
+        .copy_from_slice(values);
 }
 
 /// Copies the faces of an old leaf.
@@ -79,12 +80,7 @@ fn sum_axis<const N: usize, const G: usize>(
 {
     let _tree = old.tree();
     let values = old.values(Var::Face(axis), child);
-    restrict_faces::<N, G>(
-        axis,
-        octant,
-        values,
-        new.values_mut(Var::Face(axis), node),
-    );
+    restrict_faces::<N, G>(axis, octant, values, new.values_mut(Var::Face(axis), node));
 }
 
 /// Sums the faces of an old leaf into the octant of a new leaf in which it lies.

@@ -46,9 +46,21 @@ fn side_place(g: usize, axis: Axis, at: usize) -> PlaceAt
     ensures { result ≡ side_at g axis at }
 {
     match axis {
-        Axis::X => PlaceAt { x: g + at, y: g, z: g },
-        Axis::Y => PlaceAt { x: g, y: g + at, z: g },
-        Axis::Z => PlaceAt { x: g, y: g, z: g + at },
+        Axis::X => PlaceAt {
+            x: g + at,
+            y: g,
+            z: g,
+        },
+        Axis::Y => PlaceAt {
+            x: g,
+            y: g + at,
+            z: g,
+        },
+        Axis::Z => PlaceAt {
+            x: g,
+            y: g,
+            z: g + at,
+        },
     }
 }
 
@@ -195,7 +207,7 @@ fn face_count(n: usize, g: usize, axis: Axis) -> usize
 }
 
 /// Gives a node's faces normal to an axis an array's numbers.
-fn put_axis<const N: usize, const G: usize>(
+pub(crate) fn put_axis<const N: usize, const G: usize>(
     new: &mut World<N, G>,
     axis: Axis,
     node: u32,
@@ -210,7 +222,8 @@ fn put_axis<const N: usize, const G: usize>(
     ensures fit { IsFit N G new.new }
     ensures value { face_array new.new axis node ≡ values.now }
 {
-    new.values_mut(Var::Face(axis), node).copy_from_slice(values);
+    new.values_mut(Var::Face(axis), node)
+        .copy_from_slice(values);
 }
 
 /// Splits the faces of an old leaf into those of one of its children. Where leaves of the child's level stood beside it,

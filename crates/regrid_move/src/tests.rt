@@ -6,12 +6,13 @@ ghost use Rattle.mesh_model.specs.Fields.Ranks.{IsFit, IsSized};
 ghost use Rattle.mesh_model.specs.Geometry.Limits.{IsShape};
 ghost use Rattle.refine_marks.specs.Flags.{IsOnePerNode};
 ghost use Rattle.refine_marks.specs.Planned.{merged_by, refined_by};
-ghost use Rattle.regrid_move.specs.Tried.{MayTry};
+ghost use Rattle.regrid_move.specs.Tried.{MayTry, MayTryFaces};
 ghost use Rattle.rank_world.specs.Puts.{IsPut};
 ghost use Rattle.std.specs.Prelude.{◌≡◌, ◌<◌, ◌≤◌, ◌^◌, ◌⊎◌, IfSome};
 
+use crate::splitting::put_axis;
 use crate::{RegridStop, regrid};
-use amr_num::{CellAt, SideKind, fits};
+use amr_num::{Axis, CellAt, SideKind, fits};
 use block_store::Layout;
 use block_tree::{Marks, Tree};
 use mesh_model::{Group, RangeStop, Shape, Spot, Var};
@@ -245,4 +246,80 @@ fn too_many_blocks_are_counted(rt: HostRuntime) {
         Some(Err(RegridStop::Blocks(4608)))
     );
     assert_eq!(rt; mesh.tree().len(), 512);
+}
+
+/// The world of one root, whose faces all have the number 13.
+fn uniform(alloc: Global) -> Option<World<4, 1>>
+    ensures { IfSome result (λ world. MayTryFaces 4 1 world) }
+{
+    let layout = Layout {
+        cells: 0,
+        faces: 1,
+        edges: 0,
+    };
+    let mut world = match World::on_tree(alloc, one_root(alloc)?, layout) {
+        Ok(world) => world,
+        Err(_) => return None,
+    };
+    if world.tree().len() != 1 {
+        return None;
+    }
+    let faces = [13i64; 252];
+    put_axis(&mut world, Axis::X, 0, &faces);
+    put_axis(&mut world, Axis::Y, 0, &faces);
+    put_axis(&mut world, Axis::Z, 0, &faces);
+    Some(world)
+}
+
+/// Regrids a world with a face variable by the plan for its tree.
+fn regridded_faces<const N: usize, const G: usize>(
+    alloc: Global,
+    world: &mut World<N, G>,
+) -> Option<Result<(), RegridStop>>
+    requires { MayTryFaces N G world.old }
+    ensures { IsFit N G world.new }
+{
+    let plan = plan_of(alloc, world.tree())?;
+    Some(regrid(alloc, world, &plan))
+}
+
+/// The number at a place of the faces of a node normal to an axis.
+fn face<const N: usize, const G: usize>(
+    world: &World<N, G>,
+    axis: Axis,
+    node: u32,
+    place: usize,
+) -> Option<i64>
+    requires { IsFit N G world.now }
+{
+    if node < world.tree().len() && world.layout().faces > 0 {
+        world.values(Var::Face(axis), node).get(place).copied()
+    } else {
+        None
+    }
+}
+
+/// Faces of the children: an axis, a node, a place, and the number. The quarters of 13 are 4, 3, 3 and 3, and the faces
+/// between the octants of a cell let through what those on its sides do. On x the place of (i, j, k) is
+/// (1 + i) + 7 (1 + j) + 42 (1 + k), on y (1 + i) + 6 (1 + j) + 42 (1 + k), and on z (1 + i) + 6 (1 + j) + 36 (1 + k).
+const QUARTERS: [(Axis, u32, usize, i64); 9] = [
+    (Axis::X, 1, 50, 4),
+    (Axis::X, 1, 51, 4),
+    (Axis::X, 1, 57, 3),
+    (Axis::X, 1, 92, 3),
+    (Axis::X, 8, 54, 4),
+    (Axis::Y, 1, 49, 4),
+    (Axis::Y, 3, 56, 3),
+    (Axis::Z, 5, 79, 4),
+    (Axis::Z, 5, 86, 3),
+];
+
+#[test]
+fn faces_of_one_block_are_quartered(rt: HostRuntime) {
+    let mut mesh = uniform(rt.alloc()).expect(&rt, "memory");
+    assert_eq!(rt; regridded_faces(rt.alloc(), &mut mesh), Some(Ok(())));
+    assert_eq!(rt; mesh.tree().len(), 9);
+    for (axis, node, place, part) in QUARTERS {
+        assert_eq!(rt; face(&mesh, axis, node, place), Some(part));
+    }
 }

@@ -54,12 +54,12 @@ move_values-requires g c =
       omega arith,
       (
         record {
-            old_fit = c.requires.fit;
-            new_fit = c.in-Ok-on_tree.ensures.fit;
-            counts = c.in-Ok-on_tree.ensures.counts_are ∙ c.layout.ensures;
-            near = subst (λ h. AreNear now.told.grid h) (sym new_is) near;
-            range = c.requires.range;
-          },
+          old_fit = c.requires.fit;
+          new_fit = c.in-Ok-on_tree.ensures.fit;
+          counts = c.in-Ok-on_tree.ensures.counts_are ∙ c.layout.ensures;
+          near = subst (λ h. AreNear now.told.grid h) (sym new_is) near;
+          range = c.requires.range;
+        },
         c.requires.mesh,
       ),
     )

@@ -27,6 +27,7 @@ returns-then-layout-gt0 g c =
     let long : length c.put.new.values ≡ var_length n e (Cell 0) = c.put.ensures.size ∙ c.values_mut.ensures.whole in
     record {
       fit = fit_after w (Cell 0) c.args.node c.put.new.values c.requires.fit.one n e size c.requires.fit (has_array n e w (Cell 0) c.args.node c.requires.fit there declared);
+      few = c.requires.few;
       cells = c.requires.cells;
       range = put_in_range n e w 0 c.args.node c.put.new.values size c.requires.fit declared there long (subst (λ (xs : List ℤ). IsPut (2 ^ 40) xs c.put.new.values) c.values_mut.ensures.value c.put.ensures) c.requires.range;
     }
