@@ -3,7 +3,7 @@ use Rattle.std.proofs.Common.{◌≡◌, ℕ, ◌<◌, List, [], ◌++◌, lengt
 use Rattle.std.specs.Global.{Vec}
 use Rattle.std.proofs.lemmas.Bool.{cases_lt, cases_order}
 use Rattle.std.proofs.lemmas.List.{drop_all, get_or-map, get_or-set_other, get_or-set_same, length-set, map-set, set-get_or, set-set, set_past, take_at}
-use Rattle.block_store.specs.Held.{all_numbers, numbers, pick, put}
+use Rattle.block_store.specs.Held.{AreExchanged, all_numbers, numbers, pick, put}
 use Rattle.mesh_model.specs.Fields.Arrays.{block_in, refilled, with_block}
 
 -- arrays of which one is exchanged
@@ -84,3 +84,22 @@ slot_at xs now slot n h e at l = subst (λ m. at < m) (ap length (sym e) ∙ len
 
 pub array_at : (xs now : List (List (List ℤ))) (slot n : ℕ) (h : List ℤ) → put xs slot n h ≡ now → (at m : ℕ) → m < length (block_in now at) → m < length (block_in xs at)
 array_at xs now slot n h e at m l = subst (λ r. m < r) (ap (λ bs. length (block_in bs at)) (sym e) ∙ block_put xs slot n at h) l
+
+-- the array in the hand, whose place is a, and that at the place b were exchanged
+module _ (xs now : List (List (List ℤ))) (slot a b : ℕ) (h : List ℤ) (e : put xs slot a h ≡ now) (within : slot < length now) (on_a : a < length (block_in now slot)) (on_b : b < length (block_in now slot)) (apart : a ≡ b → ⊥) where
+  pub exchanged_across : AreExchanged now (put (put xs slot b h) slot a (pick xs slot b)) slot a b
+  exchanged_across =
+      let there = put xs slot b h in
+      let other = pick xs slot b in
+      let inside = slot_at xs now slot a h e slot within in
+      let a_there = array_at xs now slot a h e slot a on_a in
+      let b_there = array_at xs now slot a h e slot b on_b in
+      let in_there : slot < length there = subst (λ m. slot < m) (sym (length_put xs slot b h)) inside in
+      let a_in_there : a < length (block_in there slot) = subst (λ m. a < m) (sym (block_put xs slot b slot h)) a_there in
+      record {
+        slots = length_put there slot a other ∙ length_put xs slot b h ∙ sym (length_put xs slot a h) ∙ ap length e;
+        arrays = λ at. block_put there slot a at other ∙ block_put xs slot b at h ∙ sym (block_put xs slot a at h) ∙ ap (λ ys. length (block_in ys at)) e;
+        first = pick_put there slot a other in_there a_in_there ∙ sym (pick_other xs slot a slot b h (λ s n. apart (sym n))) ∙ ap (λ ys. pick ys slot b) e;
+        second = pick_other there slot a slot b other (λ s n. apart (sym n)) ∙ pick_put xs slot b h inside b_there ∙ sym (pick_put xs slot a h inside a_there) ∙ ap (λ ys. pick ys slot a) e;
+        others = λ at m no_a no_b. pick_other there slot a at m other no_a ∙ pick_other xs slot b at m h no_b ∙ sym (pick_other xs slot a at m h no_a) ∙ ap (λ ys. pick ys at m) e;
+      }

@@ -3,3 +3,4 @@ pub mod Hand
 pub mod Lengths
 pub mod Pooled
 pub mod BoxRows
+pub mod Exchanged

@@ -24,3 +24,11 @@ pub record IsClearedBelow (count : ℕ) (old new : List (List (List ℤ))) (slot
   pub others : (at m : ℕ) → (at ≡ slot → ⊥) → pick new at m ≡ pick old at m
   pub zero : (m : ℕ) → m < count → pick new slot m ≡ replicate (length (pick old slot m)) (pos 0)
   pub rest : (m : ℕ) → count ≤ m → pick new slot m ≡ pick old slot m
+
+-- two arrays of a slot changed places, and all else is as it was
+pub record AreExchanged (old new : List (List (List ℤ))) (slot a b : ℕ) : Type 0 where
+  pub slots : length new ≡ length old
+  pub arrays : (at : ℕ) → length (block_in new at) ≡ length (block_in old at)
+  pub first : pick new slot a ≡ pick old slot b
+  pub second : pick new slot b ≡ pick old slot a
+  pub others : (at m : ℕ) → (at ≡ slot → m ≡ a → ⊥) → (at ≡ slot → m ≡ b → ⊥) → pick new at m ≡ pick old at m

@@ -42,6 +42,14 @@ pub record IsGivenBack (old new : Arrays) (slot : ℕ) : Type 0 where
   pub others : KeepsOthers old new slot
   pub spare : spare_of new ≡ spare_of old + 1
 
+-- the arrays of two variables of a slot changed places, and all else is as it was
+pub record IsExchanged (old new : Arrays) (slot : ℕ) (a b : Var) : Type 0 where
+  pub counts : new.counts ≡ old.counts
+  pub held : new.held ≡ old.held
+  pub first : array_in new a slot ≡ array_in old b slot
+  pub second : array_in new b slot ≡ array_in old a slot
+  pub others : (u : Var) (at : ℕ) → (u ≡ a → at ≡ slot → ⊥) → (u ≡ b → at ≡ slot → ⊥) → array_in new u at ≡ array_in old u at
+
 -- what holds of a pool: all its slots have whole arrays, those of free slots are zeros, so many slots are free, and none of them before some slot
 pub record IsPool (n g : ℕ) (a : Arrays) (free from : ℕ) : Type 0 where
   pub size : IsSize n g

@@ -53,7 +53,7 @@ fn first_free(taken: &[bool], first: usize) -> usize
 
 impl<const N: usize, const G: usize> Pool<N, G> {
     ghost use Rattle.block_store.specs.PoolLends.{CanBeside, IsBeside, LendsArray, LendsOut};
-    ghost use Rattle.block_store.specs.Pools.{IsGivenBack, IsTaken, KeepsArrays, no_arrays, spare_of};
+    ghost use Rattle.block_store.specs.Pools.{IsExchanged, IsGivenBack, IsTaken, KeepsArrays, no_arrays, spare_of};
     ghost use Rattle.mesh_model.specs.Fields.Arrays.{HasArray, IsHeld, array_in, var_length};
     ghost use Rattle.mesh_model.specs.Fields.ArrayPlaces.{IsSize};
     ghost use Rattle.std.specs.Borrow.{sem};
@@ -163,5 +163,16 @@ impl<const N: usize, const G: usize> Pool<N, G> {
         ];
         self.store
             .beside(slot as usize, numbers, array_number(write))
+    }
+    /// Exchanges the arrays of two variables in a slot, without copying them.
+    pub fn exchange(&mut self, slot: u32, a: Var, b: Var)
+        requires a { HasArray self.old a slot }
+        requires b { HasArray self.old b slot }
+        requires lengths { var_length N G a ≡ var_length N G b }
+        requires apart { a ≡ b → ⊥ }
+        ensures { IsExchanged self.old self.new slot a b }
+    {
+        self.store
+            .exchange(slot as usize, array_number(a), array_number(b));
     }
 }

@@ -1,6 +1,6 @@
 //! Arrays by slots and numbers, of which one can be written beside others that are read.
 
-ghost use Rattle.block_store.specs.Held.{IsClearedBelow, all_numbers, numbers, pick, put};
+ghost use Rattle.block_store.specs.Held.{AreExchanged, IsClearedBelow, all_numbers, numbers, pick, put};
 ghost use Rattle.mesh_model.specs.Fields.Arrays.{block_in};
 ghost use Rattle.std.specs.Prelude.{◌≡◌, ◌<◌, ◌≤◌, ◌++◌, ◌∷◌, [], OnErr, OnOk, length, map, replicate, set, slice_index, slice_index_or, pos, ℕ};
 
@@ -77,6 +77,20 @@ fn take_up(blocks: &mut [Vec<Vec<i64>>], hand: &mut Vec<i64>, old: Place, new: P
 {
     put_down(blocks, old.slot, old.number, hand);
     exchange_in(blocks, new.slot, new.number, hand);
+}
+
+/// Exchanges two arrays of a slot: the first of them is in the hand then.
+fn take_across(blocks: &mut [Vec<Vec<i64>>], hand: &mut Vec<i64>, old: Place, a: Place, b: usize)
+    requires old { old.slot < length blocks.old → old.number < length (block_in (all_numbers blocks.old) old.slot) }
+    requires slot { a.slot < length blocks.old }
+    requires a { a.number < length (block_in (all_numbers blocks.old) a.slot) }
+    requires b { b < length (block_in (all_numbers blocks.old) a.slot) }
+    requires apart { a.number ≡ b → ⊥ }
+    ensures { AreExchanged (put (all_numbers blocks.old) old.slot old.number hand.old.items)
+        (put (all_numbers blocks.new) a.slot a.number hand.new.items) a.slot a.number b }
+{
+    take_up(blocks, hand, old, a);
+    exchange_in(blocks, a.slot, b, hand);
 }
 
 /// An array.
@@ -210,6 +224,29 @@ impl Store {
             d: read(arrays, Place { slot, number: d }),
             out: self.hand.as_mut_slice(),
         }
+    }
+
+    /// Exchanges two arrays of a slot.
+    pub(crate) fn exchange(&mut self, slot: usize, a: usize, b: usize)
+        requires slot { slot < length self.old }
+        requires a { a < length (block_in self.old slot) }
+        requires b { b < length (block_in self.old slot) }
+        requires apart { a ≡ b → ⊥ }
+        ensures { AreExchanged self.old self.new slot a b }
+    {
+        let old = Place {
+            slot: self.slot,
+            number: self.number,
+        };
+        take_across(
+            self.blocks.as_mut_slice(),
+            &mut self.hand,
+            old,
+            Place { slot, number: a },
+            b,
+        );
+        self.slot = slot;
+        self.number = a;
     }
 
     /// Sets the first arrays of a slot to zeros.

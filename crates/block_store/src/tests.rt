@@ -100,3 +100,22 @@ fn a_region_is_copied(rt: HostRuntime) {
     assert_eq!(rt; to[4 + 24], 9);
     assert_eq!(rt; to[5 + 24], 1);
 }
+
+#[tactic(auto, unfolding(mesh_model::specs::Fields::Arrays::with_array))]
+#[test]
+fn two_arrays_change_places(rt: HostRuntime) {
+    let layout = Layout {
+        cells: 2,
+        faces: 0,
+        edges: 0,
+    };
+    let mut pool = Pool::<4, 1>::new(rt.alloc(), layout).expect(&rt, "memory");
+    pool.reserve(1).expect(&rt, "memory");
+    let slot = pool.take(0);
+    pool.values_mut(Var::Cell(1), slot)[43] = 5;
+    pool.values_mut(Var::CellWork, slot)[43] = 6;
+    pool.exchange(slot, Var::Cell(1), Var::CellWork);
+    assert_eq!(rt; pool.values(Var::Cell(1), slot)[43], 6);
+    assert_eq!(rt; pool.values(Var::CellWork, slot)[43], 5);
+    assert_eq!(rt; pool.values(Var::Cell(0), slot)[43], 0);
+}

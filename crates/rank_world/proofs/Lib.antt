@@ -6,3 +6,4 @@ pub mod Puts
 pub mod FaceBlocks
 pub mod FaceRange
 pub mod Found
+pub mod Exchanged

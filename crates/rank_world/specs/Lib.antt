@@ -8,3 +8,4 @@ pub mod Puts
 pub mod RankLends
 pub mod WorldLends
 pub mod FaceRange
+pub mod Exchanging

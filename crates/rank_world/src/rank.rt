@@ -34,6 +34,7 @@ impl<const N: usize, const G: usize> Rank<N, G> {
     ghost use Rattle.mesh_model.specs.Fields.Arrays.{HasArray, array_in, var_length};
     ghost use Rattle.mesh_model.specs.Fields.ArrayPlaces.{AreIndices, IsSize, extents_of};
     ghost use Rattle.mesh_model.specs.Fields.ArrayPlaces as places;
+    ghost use Rattle.rank_world.specs.Exchanging.{IsRankExchanged};
     ghost use Rattle.rank_world.specs.RankLends.{LendsOut, LendsValues};
     ghost use Rattle.rank_world.specs.Starting.{IsNewRank};
     ghost use Rattle.std.specs.Borrow.{sem};
@@ -91,6 +92,18 @@ impl<const N: usize, const G: usize> Rank<N, G> {
     {
         let slot = self.slots[node as usize];
         self.pool.beside(slot, reads, write)
+    }
+
+    /// Exchanges the arrays of two variables of a node, without copying them.
+    pub fn exchange(&mut self, node: u32, a: Var, b: Var)
+        requires a { HasArray self.old.own.values a node }
+        requires b { HasArray self.old.own.values b node }
+        requires lengths { var_length N G a ≡ var_length N G b }
+        requires apart { a ≡ b → ⊥ }
+        ensures { IsRankExchanged self.old self.new node a b }
+    {
+        let slot = self.slots[node as usize];
+        self.pool.exchange(slot, a, b);
     }
 
     /// The number of a variable of a node at block indices, which are below 0 in the guard cells before its first cell.

@@ -39,6 +39,7 @@ impl<const N: usize, const G: usize> World<N, G> {
     ghost use Rattle.mesh_model.specs.Fields.ArrayPlaces.{AreIndices, IsSize, extents_of};
     ghost use Rattle.mesh_model.specs.Fields.Ranks.{IsSized, rank_at};
     ghost use Rattle.mesh_model.specs.Tree.Start.{start_grid};
+    ghost use Rattle.rank_world.specs.Exchanging.{IsWorldExchanged};
     ghost use Rattle.rank_world.specs.Starting.{IsNewWorld};
     ghost use Rattle.rank_world.specs.WorldLends.{LendsOut, LendsValues};
     ghost use Rattle.std.specs.Borrow.{sem};
@@ -119,6 +120,17 @@ impl<const N: usize, const G: usize> World<N, G> {
         ensures reads { IsBeside N G (rank_at self.old 0).own.values node reads write result }
     {
         self.ranks[0].beside(node, reads, write)
+    }
+
+    /// Exchanges the arrays of two variables of a node, without copying them.
+    pub fn exchange(&mut self, node: u32, a: Var, b: Var)
+        requires a { HasArray (rank_at self.old 0).own.values a node }
+        requires b { HasArray (rank_at self.old 0).own.values b node }
+        requires lengths { var_length N G a ≡ var_length N G b }
+        requires apart { a ≡ b → ⊥ }
+        ensures { IsWorldExchanged self.old self.new node a b }
+    {
+        self.ranks[0].exchange(node, a, b);
     }
 }
 
