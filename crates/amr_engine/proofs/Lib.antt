@@ -11,6 +11,7 @@ pub mod ValidOut
 pub mod Shown
 pub mod Ranged
 pub mod Made
+pub mod FaceStops
 pub mod Marks
 pub mod Acted
 pub mod Started
@@ -24,3 +25,9 @@ pub mod StepMade
 pub mod Settled
 pub mod Stepped
 pub mod Advanced
+pub mod Balanced
+pub mod FacesMade
+pub mod Faced
+pub mod FacesFound
+pub mod FacesSet
+pub mod Netted

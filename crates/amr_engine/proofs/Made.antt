@@ -1,8 +1,8 @@
 -- What the operations of an engine make of its mesh.
-use Rattle.std.proofs.Common.{◌≡◌, ◌≢◌, ℕ, ◌<◌, ◌≤◌, ◌^◌, Bool, true, false, ◌==◌, List, [], None, Result, Ok, Err, IsErr, IfErr, OnErr, OnOk, length, get_or, ℤ, pos, refl, sym, ap, ap₂, subst, ◌∙◌, arith, inl, inr, eq-eqb, eqb-true}
+use Rattle.std.proofs.Common.{◌≡◌, ◌≢◌, ℕ, ◌<◌, ◌≤◌, ◌^◌, Bool, true, false, ◌==◌, List, [], Option, Some, None, IsSome, Result, Ok, Err, IsErr, IfErr, OnErr, OnOk, length, get_or, ℤ, pos, refl, sym, ap, ap₂, subst, ◌∙◌, arith, inl, inr, eq-eqb, eqb-true}
 use Rattle.std.specs.Prelude.{◌↔◌, if◌then◌else◌, ◌&&◌, ◌||◌, nat_lt, not}
 use Rattle.std.specs.Option.{option_map}
-use Rattle.std.proofs.lemmas.Bool.{cases_Bool, le-leb}
+use Rattle.std.proofs.lemmas.Bool.{cases_Bool, cases_lt, le-leb}
 use Rattle.std.proofs.lemmas.List.{get_or_default}
 use Rattle.amr_num.specs.Numbers.{Within}
 use Rattle.amr_num.specs.declared.BlockAt.{BlockAt}
@@ -303,3 +303,18 @@ module _ (names : VariableNames) (w : WorldState) (outs : List ℤ) (marks : Mar
   pub name_is : (var : ℕ) → group_name now.names (groups.Cell var) ≡ get_or names.cells var []
   unfolding mesh_of
   name_is var = refl
+
+  -- the face variable, where one is declared: its arrays are there, and its name
+  pub has_faces : IsSome names.face → 0 < w.told.counts.faces
+  has_faces some = elim (cases_lt 0 w.told.counts.faces) [
+    | inl more ↦ more
+    | inr none ↦ absurd (no_some names.face (laid.faces.0 (omega (arith, none))) some)
+  ]
+    where
+      no_some : (o : Option (List ℕ)) → o ≡ None → IsSome o → ⊥
+      no_some None is some = absurd cc
+      no_some (Some name) is some = cc
+
+  pub face_name_is : (name : List ℕ) → names.face ≡ Some name → group_name now.names groups.Face ≡ name
+  unfolding mesh_of
+  face_name_is name is = ap (λ (o : Option (List ℕ)). group_name (record { cells = names.cells; face = o; edge = names.edge }) groups.Face) is

@@ -1,5 +1,5 @@
 -- What a step found and made, in the mesh's words.
-use Rattle.std.proofs.Common.{◌≡◌, ℕ, ◌+◌, ◌^◌, ◌<◌, ◌≤◌, ◌==◌, true, false, List, Option, find, ℤ, ◌+ℤ◌, sym, ap, ap₂, subst, ◌∙◌, arith, inl, inr, eqb-true}
+use Rattle.std.proofs.Common.{◌≡◌, ℕ, ◌+◌, ◌^◌, ◌<◌, ◌≤◌, ◌==◌, true, false, List, Option, find, Err, ℤ, ◌+ℤ◌, sym, ap, ap₂, subst, ◌∙◌, arith, inl, inr, eqb-true}
 use Rattle.std.proofs.lemmas.Bool.{cases_Bool, le-ltb, lt-ltb}
 use Rattle.std.specs.Prelude.{if◌then◌else◌, unsigned_abs}
 use Rattle.amr_num.specs.Numbers.{Within, number_range}
@@ -13,7 +13,9 @@ use Rattle.mesh_model.specs.Fields.RangeWalk.{cells_walked, is_above}
 use Rattle.mesh_model.specs.Fields.Ranks.{Told, WorldState}
 use Rattle.rank_world.specs.Holding.{IsLeafNode, IsOfMesh, LeavesHold, OnlyCells}
 use Rattle.amr_engine.specs.Settling.{AreFluxed, OnlyWorkCells, WorkCellsHold}
-use Rattle.amr_engine.specs.Stepping.{KeepsMeshes, content_after, first_above}
+use Rattle.amr_engine.specs.Stepping.{KeepsMeshes, Steps, content_after, first_above}
+use Rattle.amr_engine.specs.declared.hindrance.Hindrance.{Hindrance}
+use Rattle.amr_engine.specs.declared.hindrance.Hindrance.TheVariants.{Content, FlowedOut, TooFast}
 use Rattle.amr_engine.proofs.Kept.{cells_keep_faces, meshes_kept, others_kept, work_keeps_faces, work_kept}
 use Rattle.rank_world.proofs.Meshes.{faces_same}
 use Rattle.amr_engine.proofs.Machine.{kept_128, wide}
@@ -84,3 +86,9 @@ module _ (old blown : WorldState) (v : ℕ) (speeds : List ℤ) (m : Mesh) (of :
         contents = new_holds;
         on_faces = λ some. faces_same settled taken m.faces only.told (λ x node leaf. cells_keep_faces settled taken v only x node) (still_of.on_faces (subst (λ (t : Told). 0 < t.counts.faces) only.told some));
       }
+
+-- a step that was hindered leaves the mesh
+pub steps_of : (m : Mesh) (v : ℕ) (speeds : List ℤ) (new : WorldState) (hindrance : Hindrance) → Steps m v speeds new (Err hindrance) → IsOfMesh new m
+steps_of m v speeds new TooFast steps = steps.1
+steps_of m v speeds new (Content above) steps = steps.3
+steps_of m v speeds new (FlowedOut out) steps = steps.3

@@ -8,5 +8,8 @@ pub mod Plain
 pub mod Stopping
 pub mod Built
 pub mod Flowing
+pub mod Facing
+pub mod Netting
 pub mod Settling
 pub mod Stepping
+pub mod Balancing

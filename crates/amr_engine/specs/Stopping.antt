@@ -7,12 +7,13 @@ use Rattle.amr_engine.specs.declared.cause.Cause.TheVariants.{Range, Courant, Le
 use Rattle.amr_engine.specs.declared.cause.StoppedBy.{StoppedBy}
 use Rattle.amr_engine.specs.declared.cause.StoppedBy.TheVariants as by
 use Rattle.mesh_model.specs.declared.language.script.Command.{Command}
-use Rattle.mesh_model.specs.declared.fields.values.Group.TheVariants.{Cell}
+use Rattle.mesh_model.specs.declared.fields.values.Group.TheVariants.{Cell, Face}
 use Rattle.mesh_model.specs.declared.run.stops.Refusal.TheVariants as refusals
 use Rattle.mesh_model.specs.declared.fields.spot.Spot.TheVariants as spots
 use Rattle.mesh_model.specs.Fields.Plain.{Mesh}
 use Rattle.mesh_model.specs.Run.Runs.{TheMemory, TheSink, mesh_after, needs, text_of}
 use Rattle.mesh_model.specs.Run.Stops.{refusal}
+use Rattle.rank_world.specs.declared.faces.FaceAbove.{FaceAbove}
 use Rattle.regrid_move.specs.declared.regridding.RegridStop.{RegridStop}
 use Rattle.regrid_move.specs.declared.regridding.RegridStop.TheVariants as regrids
 use Rattle.outside_io.specs.Moved.{Rose, Takes, TakesPrefix}
@@ -88,3 +89,7 @@ abbrev pub cause_of_regrid : RegridStop → Cause
 cause_of_regrid (regrids.Blocks count) = Blocks count
 cause_of_regrid (regrids.Range stop) = Range stop
 cause_of_regrid regrids.OutOfMemory = OutOfMemory
+
+-- the cause that tells of a face out of range
+abbrev pub cause_of_faces : FaceAbove → Cause
+cause_of_faces found = Range (record { var = Face; spot = spots.Face found.face; value = found.value })

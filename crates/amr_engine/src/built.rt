@@ -5,7 +5,18 @@ ghost use Rattle.mesh_model.specs.Language.Commands.{plain_script};
 ghost use Rattle.std.specs.List.{list_all};
 ghost use Rattle.std.specs.Prelude.{◌≡◌};
 
+use mesh_model::Group;
 use mesh_model::language::script::{Command, Declared, Line, Script};
+
+/// Whether guard places of a variable of the group are built.
+fn has_guards(group: Group) -> bool
+    ensures { result ≡ plain.has_guards group }
+{
+    match group {
+        Group::Cell(_) => true,
+        Group::Face | Group::Edge => false,
+    }
+}
 
 /// Whether the command is built.
 fn is_built_command(command: Command) -> bool
@@ -23,7 +34,10 @@ fn is_built_command(command: Command) -> bool
         Command::PrintTree => true,
         Command::FillAll { .. } => true,
         Command::FillBox { .. } => true,
-        Command::PrintGuards { .. } => true,
+        Command::FaceSet { .. } => true,
+        Command::Uniform { .. } => true,
+        Command::NetFlux => true,
+        Command::PrintGuards { group, .. } => has_guards(group),
         Command::PrintVar { .. } => true,
         Command::Total { .. } => true,
         _ => false,
@@ -35,7 +49,7 @@ fn is_built_command(command: Command) -> bool
 fn is_built_mesh(declared: &Declared) -> bool
     ensures { result ≡ plain.is_built_mesh declared.now }
 {
-    declared.names.face().is_none() && declared.names.edge().is_none()
+    declared.names.edge().is_none()
 }
 
 /// Whether all commands of the lines are built.

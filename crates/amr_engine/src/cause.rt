@@ -4,6 +4,7 @@ use crate::hindrance::Hindrance;
 use amr_num::BlockAt;
 use mesh_model::run::stops::{LevelStop, Refusal};
 use mesh_model::{Group, RangeStop, Spot};
+use rank_world::FaceAbove;
 use regrid_move::RegridStop;
 
 /// Why a command stopped.
@@ -75,6 +76,17 @@ impl Cause {
             RegridStop::Range(stop) => Cause::Range(stop),
             RegridStop::OutOfMemory => Cause::OutOfMemory,
         }
+    }
+
+    /// Why the face variable can't be set: a number would be out of range.
+    pub(crate) fn of_faces(found: FaceAbove) -> Cause
+        ensures { result ≡ plain.cause_of_faces found }
+    {
+        Cause::Range(RangeStop {
+            var: Group::Face,
+            spot: Spot::Face(found.face),
+            value: i128::from(found.value),
+        })
     }
 
     /// Why an advect of the variable at the speeds stops.

@@ -2,6 +2,7 @@
 
 use crate::advection::step;
 use crate::cause::{Cause, Stop};
+use crate::facing::set_uniform;
 use crate::filling::fill_leaves;
 use crate::marking::{Where, mark_where};
 use crate::region::{CellBox, Fill, Region};
@@ -73,7 +74,8 @@ fn face_variables(names: &Names) -> u32
 }
 
 impl<const N: usize, const G: usize> Engine<N, G> {
-    ghost use Rattle.amr_engine.specs.Built.{IsBuiltLine, is_built_command};
+    ghost use Rattle.amr_engine.specs.Built.{IsBuiltLine, has_guards, is_built_command};
+    ghost use Rattle.amr_engine.specs.Balancing.{MakesBalance};
     ghost use Rattle.amr_engine.specs.Plain.{declared_of, plain};
     ghost use Rattle.amr_engine.specs.Regions.{IsRegionOf, filled};
     ghost use Rattle.amr_engine.specs.MarkedWhere.{marked_where, number_of};
@@ -84,12 +86,12 @@ impl<const N: usize, const G: usize> Engine<N, G> {
     ghost use Rattle.mesh_model.specs.Fields.Ranks.{IsSized};
     ghost use Rattle.guard_fill.specs.Filling.{LeavesGuarded};
     ghost use Rattle.rank_world.specs.Holding.{IsOfMesh};
-    ghost use Rattle.mesh_model.specs.Run.Runs.{KeepsOuts, KeepsTotals, StaysPositive, mesh_after, text_of};
+    ghost use Rattle.mesh_model.specs.Run.Runs.{KeepsBalance, KeepsOuts, KeepsTotals, StaysPositive, mesh_after, text_of};
     ghost use Rattle.mesh_model.specs.Fields.Start.{start_mesh};
     ghost use Rattle.mesh_model.specs.Run.Stops.{refusal};
     ghost use Rattle.mesh_model.specs.Run.Texts.{total_text, variable_text};
     ghost use Rattle.outside_io.specs.Moved.{Takes};
-    ghost use Rattle.std.specs.Prelude.{◌≤◌, ◌^◌, true, IfErr, IfOk, OnErr, OnOk, length};
+    ghost use Rattle.std.specs.Prelude.{◌≤◌, ◌^◌, true, IfErr, IfOk, IsSome, OnErr, OnOk, length};
 
     /// The start mesh of what was declared: all contents 0. `N` and `G` are the shape's.
     pub fn new(alloc: Global, declared: Declared) -> Result<Engine<N, G>, OutOfMemory>
@@ -155,10 +157,13 @@ impl<const N: usize, const G: usize> Engine<N, G> {
         ensures cause { IfErr result (λ stop. IsCause stop.cause (plain self.old) line.now.command (record { before = K.taken sink.old; after = K.taken sink.new; faults = K.faults sink.old; new_faults = K.faults sink.new })) }
         ensures refused { OnErr result (plain self.new ≡ plain self.old) }
 
-        // What a command keeps: totals with what has flowed out, what has flowed out, and contents that are not below 0.
+        // What a command keeps: totals with what has flowed out, what has flowed out, contents that are not below 0, and a face
+        // variable without net flux out of any leaf cell. What uniform makes has none.
         ensures totals { OnOk result (KeepsTotals (plain self.old) line.now.command (plain self.new)) }
         ensures outs { OnOk result (KeepsOuts (plain self.old) line.now.command (plain self.new)) }
         ensures positive { OnOk result (StaysPositive (plain self.old) line.now.command (plain self.new)) }
+        ensures balance { OnOk result (KeepsBalance (plain self.old) line.now.command (plain self.new)) }
+        ensures balanced { OnOk result (MakesBalance (plain self.old) line.now.command (plain self.new)) }
         ensures valid { ValidMesh (plain self.new) }
 
         // No command calls the disk, and what was declared stays.
@@ -209,6 +214,9 @@ impl<const N: usize, const G: usize> Engine<N, G> {
                 Ok(())
             }
             Command::Regrid => self.regrid(),
+            Command::Uniform { b } => self.uniform(b),
+//TODO            Command::FaceSet { at, value } => self.set_face(at, value),
+//TODO            Command::NetFlux => written(self.print_net_flux(sink)),
             Command::Advect { var, speeds } => self.advect(var, speeds),
             Command::PrintSize => written(print_size(sink, self.world.tree())),
             Command::PrintMesh => written(print_mesh(sink, self.world.tree())),
@@ -291,6 +299,19 @@ impl<const N: usize, const G: usize> Engine<N, G> {
         }
     }
 
+    /// Sets each leaf face to the flux on its axis, times its area in finest faces.
+    fn uniform(&mut self, b: [i64; 3]) -> Result<(), Cause>
+        requires face { IsSome (declared_of self.old).names.face }
+        requires fluxes { AreThree (2 ^ 40) b }
+        ensures changes { Changes result (plain self.old) (Command.Uniform b) (plain self.new) }
+        ensures declared { declared_of self.new ≡ declared_of self.old }
+    {
+        match set_uniform(&mut self.world, b) {
+            Ok(()) => Ok(()),
+            Err(found) => Err(Cause::of_faces(found)),
+        }
+    }
+
     /// Makes one step of the variable.
     fn advect(&mut self, var: u32, speeds: [i64; 3]) -> Result<(), Cause>
         requires variable { IsCellVariable (declared_of self.old).names var }
@@ -321,7 +342,11 @@ impl<const N: usize, const G: usize> Engine<N, G> {
                 group,
                 &self.world,
             ),
-            Group::Face | Group::Edge => unreachable!(),
+            Group::Face => match self.names.face() {
+                Some(name) => print_var(sink, self.world.tree(), name, group, &self.world),
+                None => unreachable!(),
+            },
+            Group::Edge => unreachable!(),
         }
     }
 
@@ -344,7 +369,8 @@ impl<const N: usize, const G: usize> Engine<N, G> {
         at: BlockAt,
         sink: &mut K,
     ) -> Result<(), Cause>
-        requires { IsGroup (declared_of self.old).names group }
+        requires group { IsGroup (declared_of self.old).names group }
+        requires built { has_guards group ≡ true }
         ensures acts { Acts result (plain self.old) (Command.PrintGuards group at) (plain self.new) (record { before = K.taken sink.old; after = K.taken sink.new; faults = K.faults sink.old; new_faults = K.faults sink.new }) }
         ensures declared { declared_of self.new ≡ declared_of self.old }
     {

@@ -259,9 +259,9 @@ none_there : {A : Type 0} (o : Option A) → is_none o ≡ true → o ≡ None
 none_there None h = refl
 none_there (Some x) h = absurd (cc)
 
-pub built_names : (d : Declared) → is_built_mesh d ≡ true → (d.names.face ≡ None) × (d.names.edge ≡ None)
+pub built_names : (d : Declared) → is_built_mesh d ≡ true → d.names.edge ≡ None
 unfolding is_built_mesh
-built_names d h = (none_there d.names.face (and_parts _ _ h).0, none_there d.names.edge (and_parts _ _ h).1)
+built_names d h = none_there d.names.edge h
 
 -- ---- laws along a run
 

@@ -3,7 +3,8 @@
 ghost use Rattle.amr_program.specs.Answer.{AlongRun, IsAccepted, IsAnswer, IsRefused, IsStoppedWith, TookBeforeMemory, TookPart, most_read, plain_answer, read_in, script_in};
 ghost use Rattle.amr_program.specs.Lines.{read_line};
 ghost use Rattle.amr_program.specs.Outcome.{Outcome};
-ghost use Rattle.mesh_model.specs.Run.Runs.{KeepsOuts, KeepsTotals, StaysPositive};
+ghost use Rattle.amr_engine.specs.Balancing.{MakesBalance};
+ghost use Rattle.mesh_model.specs.Run.Runs.{KeepsBalance, KeepsOuts, KeepsTotals, StaysPositive};
 ghost use Rattle.outside_io.specs.Moved.{Rose, Takes};
 ghost use Rattle.std.specs.Prelude.{◌≡◌, ◌≢◌, ℕ, ◌<◌, ◌⊎◌, List, [], Option, Some, IfSome, drop, map, string_bytes};
 
@@ -53,10 +54,13 @@ pub fn amr<S: Source, K: Sink, D: Disk>(
 
     // Laws of the script's plain run, which `answer` ties to what is printed; they name neither the status nor the sink. The
     // total of a variable and what has flowed out of it change together by fills alone, what has flowed out by advects alone,
-    // and an advect leaves no content below 0 where none was.
+    // and an advect leaves no content below 0 where none was. Where no leaf cell has a net flux of the face variable none has one
+    // after any command but faceset, and after uniform none has one at all.
     ensures totals { IfSome (S.left source.old) (λ bytes. AlongRun KeepsTotals (script_in bytes)) }
     ensures outs { IfSome (S.left source.old) (λ bytes. AlongRun KeepsOuts (script_in bytes)) }
     ensures positive { IfSome (S.left source.old) (λ bytes. AlongRun StaysPositive (script_in bytes)) }
+    ensures balance { IfSome (S.left source.old) (λ bytes. AlongRun KeepsBalance (script_in bytes)) }
+    ensures balanced { IfSome (S.left source.old) (λ bytes. AlongRun MakesBalance (script_in bytes)) }
 {
     answer_words(alloc, words, source, sink, disk)
 }

@@ -131,8 +131,7 @@ fn faces_out_of_range(rt: HostRuntime) {
 
 #[tactic(auto, unfolding(mesh_model::specs::Fields::Arrays::with_array))]
 #[test]
-fn a_world_of_two_blocks(rt: HostRuntime) {
-    let alloc = rt.alloc();
+fn the_arrays_of_a_node_change_places(rt: HostRuntime) {
     let shape = Shape {
         rx: 2,
         ry: 1,
@@ -148,23 +147,11 @@ fn a_world_of_two_blocks(rt: HostRuntime) {
         faces: 0,
         edges: 0,
     };
-    let tree = Tree::roots(alloc, shape).expect(&rt, "memory");
-    let mut world = World::<4, 1>::on_tree(alloc, tree, layout).expect(&rt, "memory");
-    assert_eq!(rt; world.tree().len(), 2);
-    assert_eq!(rt; world.layout().cells, 1);
+    let mut world = World::<4, 1>::new(rt.alloc(), shape, layout).expect(&rt, "memory");
     world.values_mut(Var::Cell(0), 1)[43] = 5;
-    assert_eq!(rt; world.value(Var::Cell(0), 1, 0, 0, 0), 5);
-    assert_eq!(rt; BlockValues::value(&world, Var::Cell(0), 0, 0, 0, 0), 0);
-    let mut again = World::<4, 1>::new(alloc, shape, layout).expect(&rt, "memory");
-    let Beside {
-        a,
-        b: _,
-        c: _,
-        d: _,
-        out,
-    } = again.beside(1, [Var::Cell(0); 4], Var::CellWork);
-    let first = a[43];
-    out[43] = 6;
-    assert_eq!(rt; first, 0);
-    assert_eq!(rt; again.values(Var::CellWork, 1)[43], 6);
+    world.values_mut(Var::CellWork, 1)[43] = 6;
+    world.exchange(1, Var::Cell(0), Var::CellWork);
+    assert_eq!(rt; world.values(Var::Cell(0), 1)[43], 6);
+    assert_eq!(rt; world.values(Var::CellWork, 1)[43], 5);
+    assert_eq!(rt; world.values(Var::Cell(0), 0)[43], 0);
 }

@@ -1,8 +1,10 @@
 use Rattle.std.proofs.Common.{ap, map}
 use Rattle.std.specs.Prelude.{string_bytes}
 use Rattle.amr_program.proofs.Clauses as clauses
-use Rattle.mesh_model.specs.Run.Runs.{KeepsOuts, KeepsTotals, StaysPositive}
-use Rattle.mesh_model.proofs.RunLemmas.RunLaws.{runs_keep_outs, runs_keep_totals, runs_stay_positive}
+use Rattle.mesh_model.specs.Run.Runs.{KeepsBalance, KeepsOuts, KeepsTotals, StaysPositive}
+use Rattle.amr_engine.specs.Balancing.{MakesBalance}
+use Rattle.amr_engine.proofs.Balanced.{runs_make_balance}
+use Rattle.mesh_model.proofs.RunLemmas.RunLaws.{runs_keep_balance, runs_keep_outs, runs_keep_totals, runs_stay_positive}
 use Rattle.amr_program.proofs.Commands.{along_run}
 use Rattle.amr_program.proofs.program.amr.Goals as goal
 
@@ -53,6 +55,12 @@ returns-clause-outs g c = along_run KeepsOuts runs_keep_outs _
 
 pub returns-clause-positive : goal.returns-clause-positive
 returns-clause-positive g c = along_run StaysPositive runs_stay_positive _
+
+pub returns-clause-balance : goal.returns-clause-balance
+returns-clause-balance g c = along_run KeepsBalance runs_keep_balance _
+
+pub returns-clause-balanced : goal.returns-clause-balanced
+returns-clause-balanced g c = along_run MakesBalance runs_make_balance _
 
 pub returns-clause-read : goal.returns-clause-read
 returns-clause-read g c none = clauses.read _ _ _ _ c.answer_words.ensures.outcome (ap (map (λ w. string_bytes w)) none)

@@ -7,8 +7,9 @@ use Rattle.amr_engine.specs.Stepping.{Steps}
 use Rattle.amr_engine.specs.Stopping.{Changes}
 use Rattle.amr_engine.proofs.Advanced.{advect_allowed, advect_is, advect_laid, advect_valid, hindered, read_is, read_small, ready, small_out}
 use Rattle.amr_engine.proofs.Machine.{wide}
-use Rattle.amr_engine.proofs.Made.{laid_after, of_now}
+use Rattle.amr_engine.proofs.Made.{laid_same, of_now}
 use Rattle.amr_engine.proofs.ValidOut.{mesh_out}
+use Rattle.amr_engine.proofs.StepMade.{steps_of}
 use Rattle.amr_engine.proofs.engine.Engine.advect.Goals as goal
 
 pub step-requires : goal.step-requires
@@ -60,7 +61,7 @@ invariant_of-self-in-Err-1 g c =
     let told_stop = hindered self.names self.world self.outs.items self.marks self.laid_out valid c.args.var c.requires.variable c.args.speeds c.requires.speeds new told c.in-Err.hindrance (subst (Steps m c.args.var c.args.speeds new) c.in-Err.is steps) in
     record {
       fit = c.step.ensures.fit;
-      laid_out = laid_after self.names self.world self.outs.items self.marks self.laid_out valid new told;
+      laid_out = laid_same self.names self.world self.outs.items self.marks self.laid_out valid new told (steps_of m c.args.var c.args.speeds new c.in-Err.hindrance (subst (Steps m c.args.var c.args.speeds new) c.in-Err.is steps));
       valid = ∣ subst ValidMesh (sym told_stop.1) valid ∣₁;
     }
 

@@ -50,8 +50,8 @@ invariant_of-self-2 g c =
         cells = self.laid_out.cells;
         faces = self.laid_out.faces;
         edges = self.laid_out.edges;
-        face = self.laid_out.face;
         edge = self.laid_out.edge;
+        on_faces = self.laid_out.on_faces;
         flowed = self.laid_out.flowed;
         room = c.set_refine.ensures.room ∙ self.laid_out.room;
       };

@@ -49,7 +49,7 @@ returns-clause-acts g c =
     let leaf : is_leaf_block m.grid at ≡ true = ap (λ h. is_leaf_block h at) grid ∙ c.in-Some.ensures.0 in
     let is : IsNode m.grid node = subst (λ h. IsNode h node) (sym grid) c.in-Some.ensures.1.there in
     let block : block_at m.grid node ≡ at = ap (λ h. block_at h node) grid ∙ c.in-Some.ensures.1.block in
-    let there : var < new.world.told.counts.cells = subst (λ k. var < k) (sym new.laid_out.cells) (subst (λ names. IsGroup names (Cell var)) (sym (ap (λ d. d.names) c.fill_guards.ensures.declared)) (subst (IsGroup self.names) c.in-Cell.is c.requires)) in
+    let there : var < new.world.told.counts.cells = subst (λ k. var < k) (sym new.laid_out.cells) (subst (λ names. IsGroup names (Cell var)) (sym (ap (λ d. d.names) c.fill_guards.ensures.declared)) (subst (IsGroup self.names) c.in-Cell.is c.requires.group)) in
     let guards = guards_there g.row.N g.row.G new.world new.fit var there m (sym same ∙ ap (λ (k : Mesh). k.grid) c.fill_guards.ensures.mesh) c.fill_guards.ensures.guards node is (ap (is_leaf_block m.grid) block ∙ leaf) in
     let w : Written = record { before = g.K.Sink.taken c.args.sink.now; after = g.K.Sink.taken c.print_guards.new.sink; faults = g.K.Sink.faults c.args.sink.now; new_faults = g.K.Sink.faults c.print_guards.new.sink } in
     let prints : Group → Type 0 = λ group. Prints c.print_guards.result w.before (guards_text m group at) w.after w.faults w.new_faults in

@@ -1,0 +1,10 @@
+use Rattle.std.proofs.Common.{◌≡◌, ◌*◌, ◌≤◌, pos}
+use Rattle.amr_num.specs.Numbers.{sum_below}
+use Rattle.amr_engine.specs.Netting.{counted, faces_of, net_at}
+use Rattle.amr_engine.proofs.netting.count_plane.Given as goal
+
+abbrev pub invariant-loop-j : goal.invariant-loop-j
+invariant-loop-j l = record {
+  so_far : pos l.count ≡ sum_below l.j (λ j. sum_below l.n (λ i. counted (net_at (faces_of l.n l.g l.x l.y l.z) i j l.k)));
+  few : l.count ≤ l.j * 8;
+}
