@@ -31,3 +31,4 @@ pub mod Faced
 pub mod FacesFound
 pub mod FacesSet
 pub mod Netted
+pub mod FaceSet

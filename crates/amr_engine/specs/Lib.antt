@@ -10,6 +10,7 @@ pub mod Built
 pub mod Flowing
 pub mod Facing
 pub mod Netting
+pub mod Setting
 pub mod Settling
 pub mod Stepping
 pub mod Balancing

@@ -14,6 +14,7 @@ pub mod laws;
 mod marking;
 pub mod netting;
 mod region;
+pub mod setting;
 mod settling;
 mod totals;
 
