@@ -1,5 +1,5 @@
 -- A face that is set in each leaf that has it.
-use Rattle.std.proofs.Common.{◌≡◌, ◌≢◌, ℕ, suc, ◌+◌, ◌-◌, ◌*◌, ◌%◌, ◌/◌, ◌^◌, ◌<◌, ◌≤◌, ◌⊎◌, Bool, true, false, not, ◌&&◌, ◌||◌, ◌==◌, List, length, set, ℤ, pos, Option, Some, None, refl, sym, ap, ap₂, subst, ◌∙◌, arith, inl, inr, eqb-true, eq-eqb, get_or}
+use Rattle.std.proofs.Common.{◌≡◌, ◌≢◌, ℕ, suc, ◌+◌, ◌-◌, ◌*◌, ◌%◌, ◌/◌, ◌^◌, ◌<◌, ◌≤◌, ◌⊎◌, Bool, true, false, not, ◌&&◌, ◌||◌, ◌==◌, List, [], ◌∷◌, length, set, ℤ, pos, Option, Some, None, refl, sym, ap, ap₂, subst, ◌∙◌, arith, inl, inr, eqb-true, eq-eqb, get_or}
 use Rattle.std.specs.Prelude.{if◌then◌else◌}
 use Rattle.std.proofs.lemmas.Bool.{and_parts, cases_Bool, cases_lt}
 use Rattle.std.proofs.lemmas.List.{get_or-set_other, get_or-set_same}
@@ -390,3 +390,24 @@ faces_hold old new at value valid is field holds = record {
       ∙ ap (λ v. if is_same_face name at then value else v) ((holds node here x).at i j k pl.x pl.y pl.z ∙ view_of_leaf_face g (kinds g valid) valid.shape (wide_of g.shape valid.shape) field name leaf_one)
       ∙ ap (λ (u : Told). with_face field at value (name_at u.grid x node i j k)) (sym is.told);
 }
+
+pub face_set : (old mid new : WorldState) (t : Tree) (s : Shape) (at : FaceAt) (raw value : ℤ) → raw ≡ value → (can : Bool) (sides : List (Option CellAt)) →
+    grid_of t ≡ old.told.grid → s ≡ (grid_of t).shape → can ≡ (is_canonical (grid_of t).shape at && is_leaf_face (grid_of t) at) → can ≡ true → sides ≡ low_cell s at ∷ high_cell s at ∷ [] →
+    mid.told ≡ old.told → new.told ≡ mid.told →
+    IsBesideSet old.told.grid old mid at.axis true raw (get_or sides 0 None) → IsBesideSet mid.told.grid mid new at.axis false raw (get_or sides 1 None) → IsFaceSet old new at value
+face_set old mid new t s at raw value kept_is can sides tree shape is can_be both first_told second_told first second =
+    let g = old.told.grid in
+    let valid : Valid g = subst Valid tree (known t).valid in
+    let canonical : is_canonical g.shape at ≡ true = (and_parts _ _ (ap (λ (k : Grid). is_canonical k.shape at && is_leaf_face k at) (sym tree) ∙ sym is ∙ can_be)).0 in
+    let same : s ≡ g.shape = shape ∙ ap (λ (k : Grid). k.shape) tree in
+    let low : get_or sides 0 None ≡ low_cell g.shape at = ap (λ xs. get_or xs 0 None) both ∙ ap (λ k. low_cell k at) same in
+    let high : get_or sides 1 None ≡ high_cell g.shape at = ap (λ xs. get_or xs 1 None) both ∙ ap (λ k. high_cell k at) same in
+    let low_set : IsBesideSet g old mid at.axis true value (low_cell g.shape at) = subst (IsBesideSet g old mid at.axis true value) low (subst (λ v. IsBesideSet g old mid at.axis true v (get_or sides 0 None)) kept_is first) in
+    let high_set : IsBesideSet g mid new at.axis false value (high_cell g.shape at) =
+    subst (IsBesideSet g mid new at.axis false value) high
+    (subst (λ v. IsBesideSet g mid new at.axis false v (get_or sides 1 None)) kept_is (subst (λ (u : Told). IsBesideSet u.grid mid new at.axis false raw (get_or sides 1 None)) first_told second)) in
+    record {
+      told = second_told ∙ first_told;
+      each = λ node x i j k leaf there.
+          ap (λ (u : Told). number_in u.grid new x node i j k) (second_told ∙ first_told) ∙ set_or_kept g old mid new at value valid canonical low_set high_set node x i j k leaf there;
+    }
