@@ -1,5 +1,5 @@
 -- A face that is set in each leaf that has it.
-use Rattle.std.proofs.Common.{◌≡◌, ◌≢◌, ℕ, suc, ◌+◌, ◌-◌, ◌*◌, ◌%◌, ◌/◌, ◌^◌, ◌<◌, ◌≤◌, ◌⊎◌, Bool, true, false, not, ◌&&◌, ◌||◌, ◌==◌, List, [], ◌∷◌, length, set, ℤ, pos, Option, Some, None, refl, sym, ap, ap₂, subst, ◌∙◌, arith, inl, inr, eqb-true, eq-eqb, get_or}
+use Rattle.std.proofs.Common.{◌≡◌, ◌≢◌, ℕ, suc, ◌+◌, ◌-◌, ◌*◌, ◌%◌, ◌/◌, ◌<◌, ◌≤◌, ◌⊎◌, Bool, true, false, ◌&&◌, ◌==◌, List, [], ◌∷◌, length, set, ℤ, pos, Option, Some, None, refl, sym, ap, ap₂, subst, ◌∙◌, arith, inl, inr, eqb-true, eq-eqb, get_or}
 use Rattle.std.specs.Prelude.{if◌then◌else◌}
 use Rattle.std.proofs.lemmas.Bool.{and_parts, cases_Bool, cases_lt}
 use Rattle.std.proofs.lemmas.List.{get_or-set_other, get_or-set_same}
@@ -10,14 +10,12 @@ use Rattle.amr_num.specs.declared.CellAt.{CellAt}
 use Rattle.amr_num.specs.declared.FaceAt.{FaceAt}
 use Rattle.mesh_model.specs.declared.fields.values.Var.TheVariants.{Face}
 use Rattle.mesh_model.specs.declared.geometry.Shape.{Shape}
-use Rattle.mesh_model.specs.Fields.Arrays.{HasArray, var_length}
 use Rattle.mesh_model.specs.Fields.ArrayPlaces.{Extents, face_extents, place_in, size_of}
 use Rattle.mesh_model.specs.Fields.FinePlaces.{faces_in}
-use Rattle.mesh_model.specs.Fields.Ranks.{IsFit, IsSized, OnlyOf, Told, WorldState}
-use Rattle.mesh_model.specs.Fields.Views.{face_view}
+use Rattle.mesh_model.specs.Fields.Ranks.{IsFit, OnlyOf, Told, WorldState}
 use Rattle.mesh_model.specs.Geometry.Canonical.{canonical_on, is_canonical}
-use Rattle.mesh_model.specs.Geometry.Coordinates.{Inside, above, after, axis_index, below, extent, face_numbers, face_of, high_cell, is_periodic, is_same_face, low_cell, moved, on, step, with}
-use Rattle.mesh_model.specs.Geometry.Places.{in_block, longer_on}
+use Rattle.mesh_model.specs.Geometry.Coordinates.{Inside, above, after, axis_index, below, extent, face_numbers, face_of, high_cell, is_periodic, is_same_face, low_cell, moved, on, with}
+use Rattle.mesh_model.specs.Geometry.Places.{in_block}
 use Rattle.mesh_model.specs.Tree.Kinds.{Grid, block_of, holds, is_leaf, is_leaf_block, is_leaf_face}
 use Rattle.mesh_model.specs.Tree.Order.{Sorted}
 use Rattle.mesh_model.specs.Tree.ValidGrid.{Valid}
@@ -29,8 +27,7 @@ use Rattle.mesh_model.proofs.FieldLemmas.ValidGrid.{kinds, leaf_inside}
 use Rattle.mesh_model.proofs.FieldLemmas.Worlds.{has_array}
 use Rattle.mesh_model.proofs.GeometryLemmas.ShapeLimits.{cells_some}
 use Rattle.mesh_model.proofs.TreeLemmas.Tests.{either_true}
-use Rattle.block_tree.specs.Numbered.{IsNode, IsNumberOf, block_at}
-use Rattle.block_tree.specs.SideFaces.{side_half}
+use Rattle.block_tree.specs.Numbered.{IsNumberOf, block_at}
 use Rattle.block_tree.specs.GridOf.{grid_of}
 use Rattle.block_tree.specs.declared.tree.Tree.{Tree}
 use Rattle.block_tree.proofs.Facts.{known}
@@ -39,7 +36,8 @@ use Rattle.rank_world.specs.Contents.{node_of}
 use Rattle.rank_world.specs.Holding.{IsLeafNode, LeavesHoldFaces, face_array}
 use Rattle.rank_world.proofs.Contents.{along, number_of_node}
 use Rattle.rank_world.proofs.FaceContents.{after_is, canonical_inside, face_of_high, face_of_low}
-use Rattle.amr_engine.specs.Setting.{IsBesideSet, IsFaceSet, IsPlace, IsSideSet, LeafFacesHold, name_at, number_in, number_of, side_face, side_place, with_face}
+use Rattle.amr_engine.specs.Setting.{IsBesideSet, IsFaceSet, IsPlace, IsSideSet, LeafFacesHold, name_at, number_in, side_face, side_place, with_face}
+use Rattle.amr_engine.proofs.UniformSet.{longer_side, same_axis}
 
 pub and_false : (a b : Bool) → b ≡ false → (a && b) ≡ false
 and_false true b h = h
@@ -75,20 +73,6 @@ cases_axis Y Z = inr (λ is. cc)
 cases_axis Z X = inr (λ is. cc)
 cases_axis Z Y = inr (λ is. cc)
 cases_axis Z Z = inl refl
-
-same_axis : (a x : Axis) → Face a ≡ Face x → a ≡ x
-same_axis a x is = cc
-
-longer_side : (a d : Axis) (n g i : ℕ) → i < longer_on a d n → g + i < longer_on a d (n + 2 * g)
-longer_side X X n g i h = omega (arith, h)
-longer_side X Y n g i h = omega (arith, h)
-longer_side X Z n g i h = omega (arith, h)
-longer_side Y X n g i h = omega (arith, h)
-longer_side Y Y n g i h = omega (arith, h)
-longer_side Y Z n g i h = omega (arith, h)
-longer_side Z X n g i h = omega (arith, h)
-longer_side Z Y n g i h = omega (arith, h)
-longer_side Z Z n g i h = omega (arith, h)
 
 pub side_in : (n : ℕ) (a : Axis) (high : Bool) (c : CellAt) → 0 < n → let p = side_place n a high c in IsPlace n a p.x p.y p.z
 side_in n X false c some = record { x = omega (arith, some); y = omega (arith, some); z = omega (arith, some) }
@@ -144,8 +128,9 @@ module _ (g : Grid) (old new : WorldState) (a : Axis) (high : Bool) (value : ℤ
         let z = less_guards e k p.z (same_z ext (e + i) (e + j) (e + k) (e + p.x) (e + p.y) (e + p.z) ix px jy py is) in
         inr (
           ap (λ b. face_of a (canonical_on g.shape a (in_block n b i j k))) number.block
-          ∙ ap (λ u. face_of a (canonical_on g.shape a (in_block n (block_of n c) u j k))) x ∙ ap₂ (λ u v. face_of a (canonical_on g.shape a (in_block n (block_of n c) p.x u v))) y z,
-          ap (λ q. get_or (face_array new a m) q (pos 0)) is ∙ value_here))
+              ∙ ap (λ u. face_of a (canonical_on g.shape a (in_block n (block_of n c) u j k))) x ∙ ap₂ (λ u v. face_of a (canonical_on g.shape a (in_block n (block_of n c) p.x u v))) y z,
+          ap (λ q. get_or (face_array new a m) q (pos 0)) is ∙ value_here,
+        ))
     | inr miss ↦ inl (
         let apart : place i j k ≢ place p.x p.y p.z = λ is. let hit = eq-eqb (place i j k) (place p.x p.y p.z) is in cc in
         ap (λ xs. get_or xs (place i j k) (pos 0)) put ∙ get_or-set_other (face_array old a m) (place p.x p.y p.z) (place i j k) value (pos 0) apart)

@@ -8,10 +8,10 @@ use Rattle.amr_num.specs.declared.Axis.TheVariants.{X, Y, Z}
 use Rattle.amr_num.specs.declared.BlockAt.{BlockAt}
 use Rattle.amr_num.specs.declared.FaceAt.{FaceAt}
 use Rattle.mesh_model.specs.Fields.Firsts.{first_below, first_in_places}
-use Rattle.mesh_model.specs.Fields.RangeWalk.{faces_walked, is_above}
+use Rattle.mesh_model.specs.Fields.RangeWalk.{is_above}
 use Rattle.mesh_model.specs.Geometry.Canonical.{canonical_face}
 use Rattle.mesh_model.specs.Geometry.Coordinates.{face_of}
-use Rattle.mesh_model.specs.Geometry.Places.{block_faces, in_block, longer_on}
+use Rattle.mesh_model.specs.Geometry.Places.{block_faces, in_block}
 use Rattle.mesh_model.specs.Tree.Kinds.{Grid, is_leaf_block, is_leaf_face}
 use Rattle.mesh_model.specs.Tree.Order.{nodes}
 use Rattle.mesh_model.specs.Tree.ValidGrid.{Valid}
@@ -19,7 +19,6 @@ use Rattle.mesh_model.proofs.FieldLemmas.FirstFound.{first_mapped, first_same, f
 use Rattle.block_tree.specs.Numbered.{block_at}
 use Rattle.block_tree.proofs.Leaves.{leaves_are}
 use Rattle.rank_world.specs.FaceRange.{axis_above, face_above_at, first_above}
-use Rattle.rank_world.specs.declared.faces.FaceAbove.{FaceAbove}
 use Rattle.regrid_move.proofs.Excess.{found_filtered}
 use Rattle.amr_engine.specs.Facing.{above_below, face_told, node_above, walked_above}
 

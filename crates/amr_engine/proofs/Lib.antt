@@ -28,7 +28,8 @@ pub mod Advanced
 pub mod Balanced
 pub mod FacesMade
 pub mod Faced
+pub mod Uniform
 pub mod FacesFound
-pub mod FacesSet
+pub mod UniformSet
 pub mod Netted
 pub mod FaceSet

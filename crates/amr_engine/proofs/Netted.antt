@@ -1,30 +1,27 @@
 -- The net fluxes of the cells of leaves, from the numbers on their sides.
-use Rattle.std.proofs.Common.{◌≡◌, ℕ, suc, ◌+◌, ◌*◌, ◌<◌, ◌≤◌, true, List, ℤ, pos, ◌+ℤ◌, ◌-ℤ◌, refl, sym, ap, ap₂, subst, ◌∙◌, arith}
+use Rattle.std.proofs.Common.{◌≡◌, ℕ, suc, ◌+◌, ◌*◌, ◌<◌, true, List, ℤ, pos, ◌+ℤ◌, ◌-ℤ◌, sym, ap, ap₂, ◌∙◌, arith}
 use Rattle.std.proofs.lemmas.Int.{ints}
 use Rattle.amr_num.specs.Numbers.{sum_below}
 use Rattle.amr_num.specs.declared.Axis.{Axis}
 use Rattle.amr_num.specs.declared.Axis.TheVariants.{X, Y, Z}
 use Rattle.amr_num.specs.declared.BlockAt.{BlockAt}
-use Rattle.amr_num.specs.declared.CellAt.{CellAt}
 use Rattle.amr_num.specs.declared.FaceAt.{FaceAt}
 use Rattle.mesh_model.specs.Fields.ArrayPlaces.{HoldsFaces}
 use Rattle.mesh_model.specs.Fields.FinePlaces.{faces_in}
 use Rattle.mesh_model.specs.Fields.Circulation.{net_flux}
-use Rattle.mesh_model.specs.Fields.Ranks.{IsSized, WorldState}
+use Rattle.mesh_model.specs.Fields.Ranks.{IsSized}
 use Rattle.mesh_model.specs.Fields.Totals.{block_sum, box_sum, leaf_sum}
 use Rattle.mesh_model.specs.Fields.Views.{face_view}
 use Rattle.mesh_model.specs.Geometry.Canonical.{canonical_on}
 use Rattle.mesh_model.specs.Geometry.Coordinates.{Inside, after, face_of, on, with}
-use Rattle.mesh_model.specs.Geometry.Places.{in_block, longer_on}
-use Rattle.mesh_model.specs.Tree.Kinds.{Grid, is_leaf, is_leaf_block}
+use Rattle.mesh_model.specs.Geometry.Places.{in_block}
+use Rattle.mesh_model.specs.Tree.Kinds.{Grid, is_leaf_block}
 use Rattle.mesh_model.specs.Tree.Order.{Sorted, nodes}
 use Rattle.mesh_model.specs.Tree.ValidGrid.{Valid}
 use Rattle.mesh_model.proofs.FieldLemmas.BlockOctants.{block_of_cell}
 use Rattle.mesh_model.proofs.FieldLemmas.Sums.{box_same}
 use Rattle.mesh_model.proofs.FieldLemmas.Totals.{total_by_levels}
 use Rattle.mesh_model.proofs.FieldLemmas.ValidGrid.{leaf_inside}
-use Rattle.block_tree.specs.Numbered.{block_at}
-use Rattle.rank_world.specs.Holding.{IsLeafNode, LeavesHoldFaces, face_array}
 use Rattle.rank_world.proofs.FaceContents.{after_is, canonical_inside}
 use Rattle.amr_engine.specs.Netting.{counted, counted_cell, faces_of, net_at}
 use Rattle.amr_engine.specs.Totals.{node_sum}

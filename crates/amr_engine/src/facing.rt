@@ -121,7 +121,11 @@ fn axis_above<const N: usize, const G: usize>(
     if fits(value) {
         return None;
     }
-    let place = if is_calm_below(tree, axis, block) { 0 } else { 1 };
+    let place = if is_calm_below(tree, axis, block) {
+        0
+    } else {
+        1
+    };
     let face = face_along(&shape, block, axis, place);
     Some(FaceAbove { face, value })
 }
@@ -213,11 +217,7 @@ fn set_axis<const N: usize, const G: usize>(
 }
 
 /// Sets all faces of a leaf.
-fn set_leaf<const N: usize, const G: usize>(
-    world: &mut World<N, G>,
-    fluxes: [i64; 3],
-    node: u32,
-)
+fn set_leaf<const N: usize, const G: usize>(world: &mut World<N, G>, fluxes: [i64; 3], node: u32)
     requires fluxes { AreThree (2 ^ 40) fluxes }
     requires leaf { HasLeafFaces N G world.old node }
     ensures only { OnlyFacesOf world.old world.new node }

@@ -41,13 +41,7 @@ fn count_of(net: i128) -> u64
 }
 
 /// How many cells of a row have a net flux, from the numbers on their sides.
-fn count_row(
-    x: &[i64],
-    y_low: &[i64],
-    y_high: &[i64],
-    z_low: &[i64],
-    z_high: &[i64],
-) -> u64
+fn count_row(x: &[i64], y_low: &[i64], y_high: &[i64], z_low: &[i64], z_high: &[i64]) -> u64
     requires x { (length x.now ≡ length y_low.now + 1) × (length x.now ≤ 9) }
     requires y { length y_high.now ≡ length y_low.now }
     requires z { (length z_low.now ≡ length y_low.now) × (length z_high.now ≡ length y_low.now) }

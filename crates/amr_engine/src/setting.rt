@@ -8,6 +8,7 @@ ghost use Rattle.mesh_model.specs.Fields.ArrayPlaces as places;
 ghost use Rattle.mesh_model.specs.Fields.ArrayPlaces.{face_extents};
 ghost use Rattle.mesh_model.specs.Fields.Ranks.{IsFit, OnlyOf};
 ghost use Rattle.mesh_model.specs.Geometry.Canonical as canonical;
+ghost use Rattle.mesh_model.specs.Geometry.Coordinates as coordinates;
 ghost use Rattle.mesh_model.specs.Geometry.Limits.{IsShape};
 ghost use Rattle.mesh_model.specs.Tree.Kinds as kinds;
 ghost use Rattle.mesh_model.specs.Tree.Kinds.{holds, is_leaf, is_split};
@@ -151,12 +152,7 @@ fn put<const N: usize, const G: usize>(
 {
     let _shape = world.tree().shape();
     let values = world.values_mut(Var::Face(axis), node);
-    let place = place(
-        Extents::of_faces(N, G, axis),
-        G + at.x,
-        G + at.y,
-        G + at.z,
-    );
+    let place = place(Extents::of_faces(N, G, axis), G + at.x, G + at.y, G + at.z);
     values[place] = value;
 }
 
@@ -177,7 +173,13 @@ fn put_beside<const N: usize, const G: usize>(
     let tree = world.tree();
     let shape = tree.shape();
     if let Some(node) = tree.leaf_at(block_of(shape.n, c)) {
-        put(world, node, axis, place_beside(shape.n, axis, high, c), value);
+        put(
+            world,
+            node,
+            axis,
+            place_beside(shape.n, axis, high, c),
+            value,
+        );
     }
 }
 
@@ -228,5 +230,3 @@ pub fn set_face<const N: usize, const G: usize>(
     put_side(world, sides[1], at.axis, false, value);
     Ok(())
 }
-
-ghost use Rattle.mesh_model.specs.Geometry.Coordinates as coordinates;

@@ -1,6 +1,6 @@
-use Rattle.std.proofs.Common.{◌≡◌, ◌*◌, ◌^◌, ◌%◌, ◌<◌, ap, arith, mod-eq_of_lt, pos, to_z, w64, ◌∙◌}
+use Rattle.std.proofs.Common.{◌≡◌, ◌*◌, ◌^◌, ◌%◌, ap, arith, mod-eq_of_lt, to_z, w64, ◌∙◌}
 use Rattle.std.proofs.lemmas.Int.{to_z_pos}
-use Rattle.amr_engine.proofs.Faced.{area_small, four_power}
+use Rattle.amr_engine.proofs.Uniform.{area_small, four_power}
 use Rattle.amr_engine.proofs.facing.area.Goals as goal
 
 pub returns : goal.returns

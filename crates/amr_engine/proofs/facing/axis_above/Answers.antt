@@ -1,16 +1,13 @@
-use Rattle.std.proofs.Common.{◌≡◌, ◌^◌, ◌<◌, ℤ, None, Some, Option, false, true, arith, ap, ap₂, of_z, subst, sym, to_z, w64, ◌∙◌}
-use Rattle.amr_num.proofs.Machine.{kept}
+use Rattle.std.proofs.Common.{◌≡◌, ◌^◌, Some, ap, ap₂, of_z, subst, sym, to_z, w64, ◌∙◌}
 use Rattle.amr_num.specs.declared.BlockAt.{BlockAt}
 use Rattle.mesh_model.specs.Fields.Advect.{three}
 use Rattle.mesh_model.specs.Fields.RangeWalk.{is_above}
 use Rattle.mesh_model.specs.Geometry.Blocks.{InDomain}
-use Rattle.mesh_model.specs.Tree.Kinds.{Grid, is_split_block}
+use Rattle.mesh_model.specs.Tree.Kinds.{Grid}
 use Rattle.mesh_model.specs.Tree.ValidGrid.{Valid}
-use Rattle.mesh_model.proofs.TreeLemmas.Tests.{refuted}
 use Rattle.block_tree.specs.GridOf.{grid_of}
 use Rattle.block_tree.specs.Numbered.{block_at}
 use Rattle.block_tree.proofs.Facts.{known}
-use Rattle.block_tree.proofs.Leaves.{split_leaf}
 use Rattle.amr_engine.specs.Facing.{level_flux}
 use Rattle.amr_engine.proofs.Blocks.{small_block}
 use Rattle.amr_num.specs.Numbers.{Within}
@@ -19,7 +16,7 @@ use Rattle.mesh_model.specs.Geometry.Coordinates.{face_of, step}
 use Rattle.mesh_model.specs.Geometry.Places.{in_block}
 use Rattle.mesh_model.specs.declared.geometry.Shape.{Shape}
 use Rattle.amr_engine.specs.Facing.{IsCalmBelow}
-use Rattle.amr_engine.proofs.Faced.{above_one, first_found, first_place, flux_is, inside_of, none_above, not_above, whole_of}
+use Rattle.amr_engine.proofs.Uniform.{above_one, first_found, first_place, flux_is, inside_of, none_above, not_above, whole_of}
 use Rattle.amr_engine.proofs.facing.axis_above.Goals as goal
 use Rattle.amr_engine.proofs.facing.axis_above.Goals.{then-is_calm_below, else-is_calm_below}
 

@@ -1,8 +1,8 @@
-use Rattle.std.proofs.Common.{◌≡◌, ◌*◌, ◌^◌, ◌<◌, ◌≤◌, ◌*ℤ◌, ap₂, arith, of_z, pos, subst, sym, to_z, w64, ◌∙◌, unsigned_abs, FitsSigned}
+use Rattle.std.proofs.Common.{◌≡◌, ◌^◌, ◌*ℤ◌, ap₂, arith, of_z, pos, subst, sym, to_z, w64, ◌∙◌, FitsSigned}
 use Rattle.std.proofs.lemmas.Int.{fits_signed_from_abs}
 use Rattle.amr_num.specs.Numbers.{Within}
 use Rattle.amr_num.proofs.Machine.{kept}
-use Rattle.amr_engine.proofs.Faced.{area_small, flux_small}
+use Rattle.amr_engine.proofs.Uniform.{area_small, flux_small}
 use Rattle.amr_engine.proofs.facing.flux_through.Goals as goal
 
 pub overflow_mul-result : goal.overflow_mul-result

@@ -1,4 +1,4 @@
-use Rattle.std.proofs.Common.{◌≡◌, ◌^◌, ◌<◌, ap, ap₂, arith, length, of_z, replicate, subst, sym, to_z, w64, ◌∙◌}
+use Rattle.std.proofs.Common.{◌≡◌, ◌^◌, ap, ap₂, arith, length, of_z, replicate, subst, to_z, w64, ◌∙◌}
 use Rattle.amr_num.proofs.Machine.{kept}
 use Rattle.mesh_model.specs.Fields.Advect.{three}
 use Rattle.mesh_model.specs.Fields.Arrays.{var_length}

@@ -1,9 +1,8 @@
-use Rattle.std.proofs.Common.{◌≡◌}
 use Rattle.amr_num.specs.declared.Axis.{Axis}
 use Rattle.amr_num.specs.declared.Axis.TheVariants.{X, Y, Z}
 use Rattle.mesh_model.specs.Fields.Advect.{three}
 use Rattle.amr_engine.specs.Facing.{IsEven}
-use Rattle.amr_engine.proofs.FacesSet.{even_kept, more_faces, one_axis}
+use Rattle.amr_engine.proofs.UniformSet.{even_kept, more_faces, one_axis}
 use Rattle.amr_engine.proofs.facing.set_leaf.Goals as goal
 
 pub returns : goal.returns

@@ -1,11 +1,10 @@
-use Rattle.std.proofs.Common.{◌≡◌, ◌<◌, ap, arith, length, subst, ◌∙◌}
+use Rattle.std.proofs.Common.{ap, arith, length, subst, ◌∙◌}
 use Rattle.block_tree.proofs.Facts.{known}
 use Rattle.mesh_model.specs.Fields.Advect.{three}
-use Rattle.mesh_model.specs.Fields.Ranks.{Told}
 use Rattle.mesh_model.specs.Tree.Kinds.{Grid}
 use Rattle.mesh_model.specs.Tree.Order.{nodes}
 use Rattle.mesh_model.specs.Tree.ValidGrid.{Valid}
-use Rattle.amr_engine.proofs.FacesSet.{all_even}
+use Rattle.amr_engine.proofs.UniformSet.{all_even}
 use Rattle.amr_engine.proofs.facing.set_leaves.Goals as goal
 
 pub returns-clause-holds : goal.returns-clause-holds

@@ -1,7 +1,7 @@
 use Rattle.mesh_model.specs.Fields.Advect.{three}
 use Rattle.mesh_model.specs.Fields.Ranks.{IsFit}
 use Rattle.amr_engine.specs.Facing.{OnlyFaces}
-use Rattle.amr_engine.proofs.FacesSet.{AreEvenBelow}
+use Rattle.amr_engine.proofs.UniformSet.{AreEvenBelow}
 use Rattle.amr_engine.proofs.facing.set_leaves.Given as goal
 
 abbrev pub invariant-loop-node : goal.invariant-loop-node

@@ -1,12 +1,11 @@
-use Rattle.std.proofs.Common.{◌≡◌, ◌+◌, ◌<◌, None, Some, Option, length, true, false, is_some, arith, ap, subst, sym, ◌∙◌}
+use Rattle.std.proofs.Common.{◌≡◌, length, arith, ap, subst, sym, ◌∙◌}
 use Rattle.block_tree.proofs.Facts.{known}
 use Rattle.mesh_model.specs.Fields.Advect.{three}
 use Rattle.mesh_model.specs.Fields.Induct.{uniform_faces}
 use Rattle.mesh_model.specs.Tree.Kinds.{Grid}
 use Rattle.mesh_model.specs.Tree.Order.{nodes}
 use Rattle.mesh_model.specs.Tree.ValidGrid.{Valid}
-use Rattle.mesh_model.proofs.FieldLemmas.FirstFound.{one_more_none}
-use Rattle.amr_engine.specs.Facing.{above_below, node_above, walked_above}
+use Rattle.amr_engine.specs.Facing.{above_below, node_above}
 use Rattle.amr_engine.proofs.FacesFound.{found_now, no_more, walk_found}
 use Rattle.amr_engine.proofs.facing.walk_above.Goals as goal
 

@@ -1,4 +1,4 @@
-use Rattle.std.proofs.Common.{◌≡◌, ◌+◌, ◌*◌, ◌<◌, ◌≤◌, ap, arith, pos, ◌∙◌}
+use Rattle.std.proofs.Common.{◌≡◌, ap, arith, ◌∙◌}
 use Rattle.amr_num.specs.Numbers.{sum_below}
 use Rattle.mesh_model.specs.Fields.Totals.{box_sum}
 use Rattle.amr_engine.specs.Netting.{counted, faces_of, net_at}

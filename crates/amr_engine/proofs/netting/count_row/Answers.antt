@@ -1,4 +1,4 @@
-use Rattle.std.proofs.Common.{◌≡◌, ◌+◌, ◌<◌, ◌≤◌, ◌^◌, ◌+ℤ◌, ◌-ℤ◌, ap, ap₂, arith, of_z, pos, rules, to_z, w64, ◌∙◌}
+use Rattle.std.proofs.Common.{◌≡◌, ◌+◌, ◌^◌, ◌+ℤ◌, ◌-ℤ◌, ap, ap₂, arith, of_z, rules, to_z, w64, ◌∙◌}
 use Rattle.amr_num.specs.Numbers.{at}
 use Rattle.amr_engine.specs.Netting.{counted}
 use Rattle.amr_engine.proofs.Machine.{wide}

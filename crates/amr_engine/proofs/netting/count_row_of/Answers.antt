@@ -1,8 +1,7 @@
-use Rattle.std.proofs.Common.{◌≡◌, ◌+◌, ◌<◌, ◌+ℤ◌, ◌-ℤ◌, ℕ, ap, ap₂, arith, pos, subst, sym, ◌∙◌}
+use Rattle.std.proofs.Common.{◌≡◌, ◌+◌, ◌<◌, ◌+ℤ◌, ◌-ℤ◌, ℕ, ap, ap₂, arith, ◌∙◌}
 use Rattle.amr_num.specs.Numbers.{at, sum_below}
-use Rattle.amr_num.specs.declared.Axis.TheVariants.{X, Y, Z}
 use Rattle.amr_num.proofs.Parts.{sum_below_same}
-use Rattle.mesh_model.specs.Fields.ArrayPlaces.{face_extents, number_at}
+use Rattle.mesh_model.specs.Fields.ArrayPlaces.{number_at}
 use Rattle.amr_engine.specs.Netting.{counted, faces_of, net_at}
 use Rattle.amr_engine.proofs.netting.count_row_of.Goals as goal
 

@@ -1,4 +1,4 @@
-use Rattle.std.proofs.Common.{◌≡◌, ◌&&◌, ◌<◌, false, ap, arith, sym, ◌∙◌}
+use Rattle.std.proofs.Common.{arith, sym}
 use Rattle.mesh_model.specs.Geometry.Canonical as canonical
 use Rattle.mesh_model.specs.Tree.Kinds as kinds
 use Rattle.mesh_model.proofs.TreeLemmas.Tests.{refuted}

@@ -1,4 +1,4 @@
-use Rattle.std.proofs.Common.{◌≡◌, true, false, not, ap, inl, inr, sym, ◌∙◌}
+use Rattle.std.proofs.Common.{not, ap, inl, inr, sym, ◌∙◌}
 use Rattle.std.proofs.lemmas.Bool.{cases_Bool}
 use Rattle.mesh_model.specs.Tree.Kinds.{is_split_block}
 use Rattle.mesh_model.specs.Tree.ValidGrid.{Valid}
@@ -7,7 +7,7 @@ use Rattle.block_tree.specs.Numbered.{block_at}
 use Rattle.block_tree.proofs.BlocksBeside.{no_split}
 use Rattle.block_tree.proofs.Facts.{known}
 use Rattle.block_tree.proofs.Numbers.{splits}
-use Rattle.amr_engine.proofs.Faced.{whole_of}
+use Rattle.amr_engine.proofs.Uniform.{whole_of}
 use Rattle.amr_engine.proofs.setting.is_split_block.Goals as goal
 
 pub returns-in-None : goal.returns-in-None

@@ -1,4 +1,4 @@
-use Rattle.std.proofs.Common.{◌≡◌, ◌+◌, ap, ap₂, length, of_z, rules, set, subst, sym, to_z, w64, ◌∙◌}
+use Rattle.std.proofs.Common.{◌≡◌, ◌+◌, ap, ap₂, length, of_z, rules, set, subst, to_z, w64, ◌∙◌}
 use Rattle.std.proofs.lemmas.List.{length-set}
 use Rattle.mesh_model.specs.Fields.Arrays.{var_length}
 use Rattle.mesh_model.specs.Fields.ArrayPlaces as places

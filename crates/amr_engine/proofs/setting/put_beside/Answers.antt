@@ -1,12 +1,4 @@
-use Rattle.std.proofs.Common.{◌≡◌, ◌+◌, ap, ap₂, length, of_z, rules, set, subst, sym, to_z, w64, ◌∙◌}
-use Rattle.mesh_model.specs.Fields.Arrays.{var_length}
-use Rattle.mesh_model.specs.Fields.ArrayPlaces.{face_extents, place_in, size_of}
-use Rattle.mesh_model.specs.Geometry.Limits.{IsShape}
-use Rattle.mesh_model.specs.Tree.Kinds.{Grid, block_of}
-use Rattle.mesh_model.specs.Tree.Order.{Sorted}
-use Rattle.mesh_model.specs.Tree.ValidGrid.{Valid}
-use Rattle.mesh_model.specs.declared.fields.values.Var.TheVariants.{Face}
-use Rattle.block_tree.proofs.Facts.{known}
+use Rattle.std.proofs.Common.{◌≡◌, of_z, rules, to_z, w64}
 use Rattle.amr_engine.proofs.FaceSet.{put_there}
 use Rattle.amr_engine.proofs.setting.put_beside.Goals as goal
 

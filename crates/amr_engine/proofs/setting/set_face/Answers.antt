@@ -1,9 +1,6 @@
-use Rattle.std.proofs.Common.{◌≡◌, ◌&&◌, true, ap, refl, rules, of_z, subst, sym, to_z, w64, ◌∙◌}
-use Rattle.mesh_model.specs.Tree.Kinds.{Grid}
+use Rattle.std.proofs.Common.{◌≡◌, rules, of_z, subst, to_z, w64}
 use Rattle.mesh_model.specs.Tree.ValidGrid.{Valid}
-use Rattle.block_tree.specs.GridOf.{grid_of}
 use Rattle.block_tree.proofs.Facts.{known}
-use Rattle.amr_engine.specs.Setting.{IsFaceSet}
 use Rattle.amr_engine.proofs.FaceSet.{face_set, faces_hold}
 use Rattle.amr_engine.proofs.setting.set_face.Goals as goal
 

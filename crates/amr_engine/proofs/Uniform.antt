@@ -1,6 +1,6 @@
 -- A uniform field on faces.
-use Rattle.std.proofs.Common.{◌≡◌, ℕ, zero, suc, ◌+◌, ◌-◌, ◌*◌, ◌^◌, ◌<◌, ◌≤◌, ◌⊎◌, Bool, true, false, not, ◌&&◌, ◌||◌, ◌==◌, length, List, ℤ, pos, ◌+ℤ◌, ◌*ℤ◌, Option, Some, None, is_some, replicate, refl, sym, ap, ap₂, subst, ◌∙◌, arith, inl, inr, ne_eqb, pow_mono, to_z, of_z, w64, unsigned_abs, FitsSigned}
-use Rattle.std.proofs.lemmas.Int.{fits_signed_from_abs, ints, unsigned_abs-mul}
+use Rattle.std.proofs.Common.{◌≡◌, ℕ, zero, suc, ◌+◌, ◌-◌, ◌*◌, ◌^◌, ◌<◌, ◌≤◌, Bool, true, false, not, ◌&&◌, ◌||◌, ◌==◌, ℤ, pos, ◌*ℤ◌, Option, Some, None, refl, sym, ap, ap₂, subst, ◌∙◌, arith, inl, inr, ne_eqb, pow_mono, to_z, of_z, w64, unsigned_abs}
+use Rattle.std.proofs.lemmas.Int.{ints, unsigned_abs-mul}
 use Rattle.std.proofs.lemmas.Nat.{mul-le}
 use Rattle.amr_num.specs.Numbers.{Within, sum_below}
 use Rattle.amr_num.specs.declared.Axis.{Axis}
@@ -29,13 +29,11 @@ use Rattle.mesh_model.specs.Tree.Kinds.{Grid, is_leaf_block, is_leaf_face, is_sp
 use Rattle.mesh_model.specs.Tree.ValidGrid.{Valid}
 use Rattle.mesh_model.proofs.FieldLemmas.CellKinds.{Kinds, kinds_of_tiles, wide_of}
 use Rattle.mesh_model.proofs.FieldLemmas.Divergence.{on_leaf_face}
-use Rattle.mesh_model.proofs.FieldLemmas.FirstFound.{found_first, places_same}
+use Rattle.mesh_model.proofs.FieldLemmas.FirstFound.{found_first}
 use Rattle.mesh_model.proofs.FieldLemmas.LeafFaces.{Seen, face_top, view_is}
 use Rattle.mesh_model.proofs.GeometryLemmas.OnAxes.{with_level}
-use Rattle.mesh_model.proofs.GeometryLemmas.ShapeLimits.{cells_some}
 use Rattle.mesh_model.specs.Geometry.Limits.{IsShape}
 use Rattle.mesh_model.specs.declared.geometry.Shape.{Shape}
-use Rattle.block_store.specs.Above.{is_counted_face}
 use Rattle.block_tree.specs.Beside.{finer_beside}
 use Rattle.rank_world.specs.FaceRange.{CountLeafFaces, axis_above, face_above_at}
 use Rattle.rank_world.specs.declared.faces.FaceAbove.{FaceAbove}

@@ -1,5 +1,5 @@
 -- Leaves whose faces are set, one after the other.
-use Rattle.std.proofs.Common.{◌≡◌, ℕ, ◌+◌, ◌*◌, ◌<◌, ◌≤◌, List, ℤ, length, pos, replicate, true, false, refl, sym, ap, ap₂, subst, ◌∙◌, arith, inl, inr}
+use Rattle.std.proofs.Common.{◌≡◌, ℕ, ◌+◌, ◌*◌, ◌<◌, pos, replicate, true, false, refl, sym, ap, ap₂, subst, ◌∙◌, arith, inl, inr}
 use Rattle.std.proofs.lemmas.Bool.{cases_lt}
 use Rattle.std.proofs.lemmas.List.{get_or-replicate}
 use Rattle.amr_num.specs.declared.Axis.{Axis}
@@ -7,11 +7,11 @@ use Rattle.amr_num.specs.declared.Axis.TheVariants.{X, Y, Z}
 use Rattle.mesh_model.specs.declared.fields.values.Var.TheVariants.{Face}
 use Rattle.mesh_model.specs.Fields.Advect.{Speeds}
 use Rattle.mesh_model.specs.Fields.Arrays.{var_length}
-use Rattle.mesh_model.specs.Fields.ArrayPlaces.{HoldsFaces, IsSize, face_extents, place_in, size_of}
+use Rattle.mesh_model.specs.Fields.ArrayPlaces.{HoldsFaces, face_extents, place_in, size_of}
 use Rattle.mesh_model.specs.Fields.FinePlaces.{faces_in}
 use Rattle.mesh_model.specs.Fields.Induct.{uniform_faces}
-use Rattle.mesh_model.specs.Fields.Ranks.{IsFit, IsSized, OnlyOf, Told, WorldState}
-use Rattle.mesh_model.specs.Geometry.Places.{in_block, longer_on}
+use Rattle.mesh_model.specs.Fields.Ranks.{IsSized, OnlyOf, Told, WorldState}
+use Rattle.mesh_model.specs.Geometry.Places.{longer_on}
 use Rattle.mesh_model.specs.Tree.Kinds.{Grid, is_leaf_block}
 use Rattle.mesh_model.specs.Tree.ValidGrid.{Valid}
 use Rattle.mesh_model.proofs.FieldLemmas.BlockPlaces.{place_inside}
@@ -19,11 +19,11 @@ use Rattle.block_tree.specs.Numbered.{block_at}
 use Rattle.rank_world.specs.Holding.{IsLeafNode, LeavesHoldFaces, face_array}
 use Rattle.rank_world.proofs.FaceBlocks.{leaf_face_seen}
 use Rattle.amr_engine.specs.Facing.{AreEven, IsEven, OnlyFaces, OnlyFacesOf, level_flux, node_flux}
-use Rattle.amr_engine.proofs.Faced.{name_level, uniform_view}
+use Rattle.amr_engine.proofs.Uniform.{name_level, uniform_view}
 
 -- ---- what changes
 
-same_axis : (a x : Axis) → Face a ≡ Face x → a ≡ x
+pub same_axis : (a x : Axis) → Face a ≡ Face x → a ≡ x
 same_axis a x is = cc
 
 pub one_axis : (old new : WorldState) (a : Axis) (node : ℕ) → OnlyOf old new 0 (Face a) node → OnlyFacesOf old new node
@@ -73,7 +73,7 @@ module _ (n g m : ℕ) (old now new : WorldState) (bs : Speeds) (is : AreEvenBel
 
 -- ---- arrays with one number alone hold the views
 
-longer_side : (a d : Axis) (n g i : ℕ) → i < longer_on a d n → g + i < longer_on a d (n + 2 * g)
+pub longer_side : (a d : Axis) (n g i : ℕ) → i < longer_on a d n → g + i < longer_on a d (n + 2 * g)
 longer_side X X n g i h = omega (arith, h)
 longer_side X Y n g i h = omega (arith, h)
 longer_side X Z n g i h = omega (arith, h)
