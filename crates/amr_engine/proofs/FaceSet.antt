@@ -36,7 +36,7 @@ use Rattle.rank_world.specs.Contents.{node_of}
 use Rattle.rank_world.specs.Holding.{IsLeafNode, LeavesHoldFaces, face_array}
 use Rattle.rank_world.proofs.Contents.{along, number_of_node}
 use Rattle.rank_world.proofs.FaceContents.{after_is, canonical_inside, face_of_high, face_of_low}
-use Rattle.amr_engine.specs.Setting.{IsBesideSet, IsFaceSet, IsPlace, IsSideSet, LeafFacesHold, name_at, number_in, side_face, side_place, with_face}
+use Rattle.amr_engine.specs.Setting.{IsBesideSet, IsFaceSet, IsPlace, IsSideSet, name_at, number_in, side_face, side_place, with_face}
 use Rattle.amr_engine.proofs.UniformSet.{longer_side, same_axis}
 
 pub and_false : (a b : Bool) → b ≡ false → (a && b) ≡ false
@@ -364,10 +364,11 @@ module _ (g : Grid) (old mid new : WorldState) (at : FaceAt) (value : ℤ) (vali
 
 -- the leaves that held a field have its numbers with the one that was set
 pub faces_hold : (old new : WorldState) (at : FaceAt) (value : ℤ) → Valid old.told.grid → IsFaceSet old new at value → (field : FaceAt → ℤ) → LeavesHoldFaces old field → LeafFacesHold new (with_face field at value)
-faces_hold old new at value valid is field holds = record {
-  at = λ node x i j k leaf there t.
+faces_hold old new at value valid is field holds node x leaf = record {
+  at = λ i j k low_x low_y low_z t.
       let g = old.told.grid in
       let here : IsLeafNode g node = subst (λ (u : Told). IsLeafNode u.grid node) is.told leaf in
+      let there : IsPlace new.told.grid.shape.n x i j k = record { x = low_x; y = low_y; z = low_z } in
       let pl : IsPlace g.shape.n x i j k = subst (λ (u : Told). IsPlace u.grid.shape.n x i j k) is.told there in
       let name = name_at g x node i j k in
       let leaf_one : is_leaf_face g name ≡ true = subst (λ (u : Told). is_leaf_face u.grid (name_at u.grid x node i j k) ≡ true) is.told t in

@@ -13,7 +13,7 @@ use Rattle.mesh_model.specs.Fields.Octants.{cells_of}
 use Rattle.mesh_model.specs.Fields.Ranks.{Told, WorldState}
 use Rattle.rank_world.specs.Holding.{IsLeafNode, NodeHolds, OnlyCells, cell_array, face_array}
 use Rattle.rank_world.proofs.Meshes.{faces_same}
-use Rattle.amr_engine.specs.Settling.{OnlyWorkCells}
+use Rattle.amr_engine.specs.Settling.{OnlyCellsAndWork, OnlyWorkCells}
 use Rattle.amr_engine.specs.Stepping.{KeepsMeshes}
 use Rattle.amr_engine.proofs.Filled.{holds_same}
 
@@ -44,6 +44,10 @@ same_variable v u e = cc
 pub others_kept : (old new : WorldState) (v u node : ℕ) (content : CellAt → ℤ) → OnlyCells old new v → (u == v) ≡ false → NodeHolds old u content node → NodeHolds new u content node
 others_kept old new v u node content only other holds =
     holds_same old new u node content only.told (only.others (Cell u) node (λ e. absurd (let t = eq-eqb u v (same_variable v u e) in cc))) holds
+
+pub others_taken : (old new : WorldState) (v u node : ℕ) (content : CellAt → ℤ) → OnlyCellsAndWork old new v → (u == v) ≡ false → NodeHolds old u content node → NodeHolds new u content node
+others_taken old new v u node content only other holds =
+    holds_same old new u node content only.told (only.others (Cell u) node (λ e. absurd (let t = eq-eqb u v (same_variable v u e) in cc)) (λ e. absurd cc)) holds
 
 pub parents_kept : (old new : WorldState) (v : ℕ) → OnlyParents old new v → KeepsLeaves old new
 parents_kept old new v only u node content leaf holds = elim (cases_Bool (u == v)) [
@@ -77,6 +81,9 @@ work_kept old new only u node content leaf holds = holds_same old new u node con
 -- where the numbers of cells alone change, or those of work arrays, all numbers on faces are what they were
 pub cells_keep_faces : (old new : WorldState) (v : ℕ) → OnlyCells old new v → KeepsFaces old new
 cells_keep_faces old new v only x node = only.others (Face x) node (λ is. absurd cc)
+
+pub taken_keeps_faces : (old new : WorldState) (v : ℕ) → OnlyCellsAndWork old new v → KeepsFaces old new
+taken_keeps_faces old new v only x node = only.others (Face x) node (λ is. absurd cc) (λ is. absurd cc)
 
 pub work_keeps_faces : (old new : WorldState) → OnlyWorkCells old new → KeepsFaces old new
 work_keeps_faces old new only x node = only.others (Face x) node (λ is. absurd cc)

@@ -1,5 +1,5 @@
 -- Leaves that are settled, one after the other, and that take over their work cells.
-use Rattle.std.proofs.Common.{◌≡◌, ℕ, ◌+◌, ◌<◌, ◌^◌, true, false, length, ℤ, None, refl, sym, ap, subst, ◌∙◌, arith, inl, inr}
+use Rattle.std.proofs.Common.{◌≡◌, ℕ, ◌+◌, ◌<◌, ◌≤◌, ◌^◌, true, false, length, ℤ, None, refl, sym, ap, subst, ◌∙◌, arith, inl, inr}
 use Rattle.std.specs.Prelude.{find, flat_map}
 use Rattle.std.proofs.lemmas.Bool.{cases_lt}
 use Rattle.amr_num.specs.Numbers.{Within, number_range, sum_below}
@@ -7,12 +7,14 @@ use Rattle.amr_num.specs.declared.Axis.{Axis}
 use Rattle.amr_num.specs.declared.Axis.TheVariants.{X, Y, Z}
 use Rattle.amr_num.specs.declared.BlockAt.{BlockAt}
 use Rattle.amr_num.specs.declared.CellAt.{CellAt}
+use Rattle.mesh_model.specs.declared.fields.values.Var.{Var}
 use Rattle.mesh_model.specs.declared.fields.values.Var.TheVariants.{Cell, CellWork, FaceWork}
 use Rattle.mesh_model.specs.Fields.Advect.{Speeds, advected, flux, keeps_courant, outflow}
 use Rattle.mesh_model.specs.Fields.ArrayPlaces.{HoldsFaceField, HoldsViews, face_extents, number_at}
+use Rattle.mesh_model.specs.Fields.Arrays.{array_in}
 use Rattle.mesh_model.specs.Fields.Octants.{cells_of}
 use Rattle.mesh_model.specs.Fields.RangeWalk.{cells_walked, is_above}
-use Rattle.mesh_model.specs.Fields.Ranks.{IsFit, OnlyOf, Told, WorldState}
+use Rattle.mesh_model.specs.Fields.Ranks.{IsFit, OnlyOf, Told, WorldState, rank_at}
 use Rattle.mesh_model.specs.Geometry.Places.{block_cells, in_block, longer_on}
 use Rattle.mesh_model.specs.Tree.Kinds.{Grid, is_leaf, is_leaf_block}
 use Rattle.mesh_model.specs.Tree.Order.{Sorted, nodes}
@@ -24,12 +26,13 @@ use Rattle.mesh_model.proofs.FieldLemmas.Totals.{total_by_levels}
 use Rattle.mesh_model.proofs.FieldLemmas.ValidGrid.{leaf_whole}
 use Rattle.block_tree.specs.Numbered.{block_at}
 use Rattle.block_tree.proofs.Leaves.{leaves_are}
-use Rattle.rank_world.specs.Holding.{IsLeafNode, LeavesHold, OnlyCells, cell_array}
+use Rattle.rank_world.specs.Exchanging.{IsWorldExchanged}
+use Rattle.rank_world.specs.Holding.{IsLeafNode, LeavesHold, cell_array}
 use Rattle.flux_conserve.specs.Work.{IsJumpNode, work_array}
 use Rattle.guard_fill.specs.Filling.{HoldsSides, LeavesSided}
 use Rattle.regrid_move.proofs.Excess.{found_filtered}
 use Rattle.amr_engine.specs.Flowing.{IsReady}
-use Rattle.amr_engine.specs.Settling.{AreCellsOf, AreFluxed, HoldsContents, IsRefused, IsSettled, MaySettle, OnlyWorkCells, WorkCellsHold, WorkNodeHolds, above_below, lost, node_above, work_cells}
+use Rattle.amr_engine.specs.Settling.{AreFluxed, HoldsContents, IsRefused, IsSettled, MaySettle, OnlyCellsAndWork, OnlyWorkCells, WorkCellsHold, WorkNodeHolds, above_below, lost, node_above, work_cells}
 use Rattle.amr_engine.specs.Totals.{node_sum}
 use Rattle.amr_engine.specs.declared.hindrance.Above.{Above}
 use Rattle.amr_engine.proofs.Summed.{node_sums}
@@ -43,25 +46,39 @@ views_of_contents g content b numbers valid leaf holds = record {
       holds.at i j k hi hj hk ∙ sym (view_leaf g content c (leaf_whole g valid c here) here);
 }
 
--- the leaves below a node took over their work cells
+-- the leaves below a node took over their work cells, and no other work cells changed
 pub record AreTakenBelow (m : ℕ) (old new : WorldState) (v : ℕ) : Type 0 where
-  pub done : (k : ℕ) → k < m → IsLeafNode old.told.grid k → AreCellsOf old.told.grid.shape.n old.told.grid.shape.g (cell_array new v k) (work_cells old k)
+  pub done : (k : ℕ) → k < m → IsLeafNode old.told.grid k → cell_array new v k ≡ work_cells old k
+  pub rest : (k : ℕ) → m ≤ k → work_cells new k ≡ work_cells old k
 
 pub none_taken : (w : WorldState) (v : ℕ) → AreTakenBelow 0 w w v
-none_taken w v = record { done = λ k h leaf. absurd (omega arith) }
+none_taken w v = record { done = λ k h leaf. absurd (omega arith); rest = λ k h. refl }
 
-module _ (m : ℕ) (old now new : WorldState) (v : ℕ) (is : AreTakenBelow m old now v) (before : OnlyCells old now v) where
+pub cells_only_none : (w : WorldState) (v : ℕ) → OnlyCellsAndWork w w v
+cells_only_none w v = record { told = refl; others = λ u node no_cell no_work. refl }
+
+module _ (m : ℕ) (old now new : WorldState) (v : ℕ) (is : AreTakenBelow m old now v) (before : OnlyCellsAndWork old now v) where
   -- a leaf does
-  pub leaf_taken : OnlyOf now new 0 (Cell v) m → AreCellsOf old.told.grid.shape.n old.told.grid.shape.g (cell_array new v m) (work_cells now m) → AreTakenBelow (m + 1) old new v
-  leaf_taken only taken = record {
-    done = λ k h there. elim (cases_lt k m) [
-      | inl less ↦ subst (λ xs. AreCellsOf old.told.grid.shape.n old.told.grid.shape.g xs (work_cells old k)) (sym (only.here.others (Cell v) k (λ u e. omega arith))) (is.done k less there)
-      | inr more ↦ (
-          let last : k ≡ m = omega arith in
-          subst (λ p. AreCellsOf old.told.grid.shape.n old.told.grid.shape.g (cell_array new v p) (work_cells old p)) (sym last)
-          (subst (AreCellsOf old.told.grid.shape.n old.told.grid.shape.g (cell_array new v m)) (before.others CellWork m (λ e. cc)) taken))
-    ];
-  }
+  module _ (taken : IsWorldExchanged now new m (Cell v) CellWork) where
+    elsewhere : (u : Var) (k : ℕ) → (k ≡ m → ⊥) → array_in (rank_at new 0).own.values u k ≡ array_in (rank_at now 0).own.values u k
+    elsewhere u k ne = taken.here.arrays.others u k (λ e at. ne at) (λ e at. ne at)
+
+    pub leaf_taken : AreTakenBelow (m + 1) old new v
+    leaf_taken = record {
+      done = λ k h there. elim (cases_lt k m) [
+        | inl less ↦ elsewhere (Cell v) k (λ e. omega arith) ∙ is.done k less there
+        | inr more ↦ (
+            let last : k ≡ m = omega arith in
+            ap (cell_array new v) last ∙ taken.here.arrays.first ∙ is.rest m (omega arith) ∙ ap (work_cells old) (sym last))
+      ];
+      rest = λ k h. elsewhere CellWork k (λ e. omega arith) ∙ is.rest k (omega arith);
+    }
+
+    pub only_taken : OnlyCellsAndWork old new v
+    only_taken = record {
+      told = taken.told ∙ before.told;
+      others = λ u k no_cell no_work. taken.here.arrays.others u k (λ e at. no_cell e) (λ e at. no_work e) ∙ before.others u k no_cell no_work;
+    }
 
   -- a node that is no leaf is passed over
   pub node_not_taken : is_leaf_block now.told.grid (block_at now.told.grid m) ≡ false → AreTakenBelow (m + 1) old now v
@@ -73,10 +90,11 @@ module _ (m : ℕ) (old now new : WorldState) (v : ℕ) (is : AreTakenBelow m ol
           let leaf : is_leaf_block now.told.grid (block_at now.told.grid m) ≡ true = subst (λ (t : Told). is_leaf_block t.grid (block_at t.grid m) ≡ true) (sym before.told) (subst (λ u. is_leaf_block old.told.grid (block_at old.told.grid u) ≡ true) last there.leaf) in
           cc)
     ];
+    rest = λ k h. is.rest k (omega arith);
   }
 
 -- so all leaves hold what their work cells held
-pub all_taken : (m : ℕ) (old new : WorldState) (v : ℕ) → Valid old.told.grid → OnlyCells old new v → AreTakenBelow m old new v → ((k : ℕ) → IsLeafNode old.told.grid k → k < m) →
+pub all_taken : (m : ℕ) (old new : WorldState) (v : ℕ) → Valid old.told.grid → OnlyCellsAndWork old new v → AreTakenBelow m old new v → ((k : ℕ) → IsLeafNode old.told.grid k → k < m) →
     (content : CellAt → ℤ) → WorkCellsHold old content → LeavesHold new v content
 all_taken m old new v valid only is all content holds k leaf =
     let grid = old.told.grid in
@@ -84,7 +102,7 @@ all_taken m old new v valid only is all content holds k leaf =
     let b = block_at grid k in
     let here : HoldsViews grid content b (cells_of grid (work_cells old k)) = views_of_contents grid content b (cells_of grid (work_cells old k)) valid there.leaf (holds k there) in
     subst (λ (t : Told). HoldsViews t.grid content (block_at t.grid k) (cells_of t.grid (cell_array new v k))) (sym only.told)
-    (record { at = λ i j l hi hj hl. (is.done k (all k there) there).at i j l hi hj hl ∙ here.at i j l hi hj hl })
+    (subst (λ xs. HoldsViews grid content b (cells_of grid xs)) (sym (is.done k (all k there) there)) here)
 
 -- ---- worlds whose work cells are written
 

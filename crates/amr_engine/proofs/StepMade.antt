@@ -11,12 +11,12 @@ use Rattle.mesh_model.specs.Fields.Advect.{advect, advected, flux, outflow, thre
 use Rattle.mesh_model.specs.Fields.Plain.{Mesh}
 use Rattle.mesh_model.specs.Fields.RangeWalk.{cells_walked, is_above}
 use Rattle.mesh_model.specs.Fields.Ranks.{Told, WorldState}
-use Rattle.rank_world.specs.Holding.{IsLeafNode, IsOfMesh, LeavesHold, OnlyCells}
-use Rattle.amr_engine.specs.Settling.{AreFluxed, OnlyWorkCells, WorkCellsHold}
+use Rattle.rank_world.specs.Holding.{IsLeafNode, IsOfMesh, LeavesHold}
+use Rattle.amr_engine.specs.Settling.{AreFluxed, OnlyCellsAndWork, OnlyWorkCells, WorkCellsHold}
 use Rattle.amr_engine.specs.Stepping.{KeepsMeshes, Steps, content_after, first_above}
 use Rattle.amr_engine.specs.declared.hindrance.Hindrance.{Hindrance}
 use Rattle.amr_engine.specs.declared.hindrance.Hindrance.TheVariants.{Content, FlowedOut, TooFast}
-use Rattle.amr_engine.proofs.Kept.{cells_keep_faces, meshes_kept, others_kept, work_keeps_faces, work_kept}
+use Rattle.amr_engine.proofs.Kept.{meshes_kept, others_taken, taken_keeps_faces, work_keeps_faces, work_kept}
 use Rattle.rank_world.proofs.Meshes.{faces_same}
 use Rattle.amr_engine.proofs.Machine.{kept_128, wide}
 
@@ -63,7 +63,7 @@ module _ (old blown : WorldState) (v : ℕ) (speeds : List ℤ) (m : Mesh) (of :
     pub still_of : IsOfMesh settled m
     still_of = meshes_kept blown settled work.told (work_kept blown settled work) (work_keeps_faces blown settled work) m (meshes m of)
 
-    module _ (taken : WorldState) (only : OnlyCells settled taken v) (made : WorkCellsHold settled (advected blown.told.grid (m.cells v) (three speeds)))
+    module _ (taken : WorldState) (only : OnlyCellsAndWork settled taken v) (made : WorkCellsHold settled (advected blown.told.grid (m.cells v) (three speeds)))
         (holds : (content : CellAt → ℤ) → WorkCellsHold settled content → LeavesHold taken v content) where
       new_holds : (u : ℕ) → u < taken.told.counts.cells → LeavesHold taken u ((advect m v (three speeds)).cells u)
       new_holds u inside = elim (cases_Bool (u == v)) [
@@ -73,7 +73,7 @@ module _ (old blown : WorldState) (v : ℕ) (speeds : List ℤ) (m : Mesh) (of :
             subst (λ t. LeavesHold taken u (if t then content_after m u speeds else m.cells u)) (sym same) (subst (λ x. LeavesHold taken x (content_after m x speeds)) (sym e) here))
         | inr other ↦
             subst (λ t. LeavesHold taken u (if t then content_after m u speeds else m.cells u)) (sym other)
-            (λ node leaf. others_kept settled taken v u node (m.cells u) only other
+            (λ node leaf. others_taken settled taken v u node (m.cells u) only other
             (still_of.contents u (subst (λ (t : Told). u < t.counts.cells) only.told inside) node (subst (λ (t : Told). IsLeafNode t.grid node) only.told leaf)))
       ]
 
@@ -84,7 +84,7 @@ module _ (old blown : WorldState) (v : ℕ) (speeds : List ℤ) (m : Mesh) (of :
         faces = (λ zero. still_of.faces.0 (sym (ap (λ (t : Told). t.counts.faces) only.told) ∙ zero), λ none. ap (λ (t : Told). t.counts.faces) only.told ∙ still_of.faces.1 none);
         edges = (λ zero. still_of.edges.0 (sym (ap (λ (t : Told). t.counts.edges) only.told) ∙ zero), λ none. ap (λ (t : Told). t.counts.edges) only.told ∙ still_of.edges.1 none);
         contents = new_holds;
-        on_faces = λ some. faces_same settled taken m.faces only.told (λ x node leaf. cells_keep_faces settled taken v only x node) (still_of.on_faces (subst (λ (t : Told). 0 < t.counts.faces) only.told some));
+        on_faces = λ some. faces_same settled taken m.faces only.told (λ x node leaf. taken_keeps_faces settled taken v only x node) (still_of.on_faces (subst (λ (t : Told). 0 < t.counts.faces) only.told some));
       }
 
 -- a step that was hindered leaves the mesh

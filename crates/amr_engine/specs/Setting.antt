@@ -37,11 +37,6 @@ pub record IsFaceSet (old new : WorldState) (at : FaceAt) (value : ℤ) : Type 0
   pub each : (node : ℕ) (a : Axis) (i j k : ℕ) → IsLeafNode old.told.grid node → IsPlace old.told.grid.shape.n a i j k →
       number_of new a node i j k ≡ (if is_same_face (name_at old.told.grid a node i j k) at then value else number_of old a node i j k)
 
--- each leaf has a field's numbers on its leaf faces
-pub record LeafFacesHold (w : WorldState) (field : FaceAt → ℤ) : Type 0 where
-  pub at : (node : ℕ) (a : Axis) (i j k : ℕ) → IsLeafNode w.told.grid node → IsPlace w.told.grid.shape.n a i j k → is_leaf_face w.told.grid (name_at w.told.grid a node i j k) ≡ true →
-      number_of w a node i j k ≡ field (name_at w.told.grid a node i j k)
-
 -- a field with another number on one face
 abbrev pub with_face : (FaceAt → ℤ) → FaceAt → ℤ → FaceAt → ℤ
 with_face field at value f = if is_same_face f at then value else field f

@@ -5,9 +5,8 @@ use Rattle.amr_num.specs.declared.Axis.TheVariants.{X, Y, Z}
 use Rattle.amr_num.specs.declared.BlockAt.{BlockAt}
 use Rattle.amr_num.specs.declared.CellAt.{CellAt}
 use Rattle.mesh_model.specs.declared.fields.values.Var.{Var}
-use Rattle.mesh_model.specs.declared.fields.values.Var.TheVariants.{CellWork}
+use Rattle.mesh_model.specs.declared.fields.values.Var.TheVariants.{Cell, CellWork}
 use Rattle.mesh_model.specs.Fields.Advect.{Speeds, advected, flux, on_outer}
-use Rattle.mesh_model.specs.Fields.ArrayPlaces.{cell_extents, number_at}
 use Rattle.mesh_model.specs.Fields.Arrays.{array_in}
 use Rattle.mesh_model.specs.Fields.Circulation.{net_flux}
 use Rattle.mesh_model.specs.Fields.Firsts.{first_below}
@@ -29,10 +28,6 @@ use Rattle.amr_engine.specs.declared.hindrance.Above.{Above}
 abbrev pub work_cells : WorldState → ℕ → List ℤ
 work_cells w node = array_in (rank_at w 0).own.values CellWork node
 
--- an array has another's numbers on a block's cells
-pub record AreCellsOf (n g : ℕ) (xs ys : List ℤ) : Type 0 where
-  pub at : (i j k : ℕ) → i < n → j < n → k < n → number_at (cell_extents n g) xs (g + i) (g + j) (g + k) ≡ number_at (cell_extents n g) ys (g + i) (g + j) (g + k)
-
 -- numbers by places are the contents of a block's cells
 pub record HoldsContents (g : Grid) (content : CellAt → ℤ) (b : BlockAt) (numbers : ℕ → ℕ → ℕ → ℤ) : Type 0 where
   pub at : (i j k : ℕ) → i < g.shape.n → j < g.shape.n → k < g.shape.n →
@@ -49,6 +44,11 @@ WorkCellsHold w content = (node : ℕ) → IsLeafNode w.told.grid node → WorkN
 pub record OnlyWorkCells (old new : WorldState) : Type 0 where
   pub told : new.told ≡ old.told
   pub others : (u : Var) (node : ℕ) → (u ≡ CellWork → ⊥) → array_in (rank_at new 0).own.values u node ≡ array_in (rank_at old 0).own.values u node
+
+-- so may those of the work cells and of one cell variable
+pub record OnlyCellsAndWork (old new : WorldState) (v : ℕ) : Type 0 where
+  pub told : new.told ≡ old.told
+  pub others : (u : Var) (node : ℕ) → (u ≡ Cell v → ⊥) → (u ≡ CellWork → ⊥) → array_in (rank_at new 0).own.values u node ≡ array_in (rank_at old 0).own.values u node
 
 -- ---- before a step
 

@@ -1,7 +1,7 @@
 //! Single faces that are set.
 
 ghost use Rattle.amr_engine.specs.Facing.{HasLeafFaces, OnlyFaces};
-ghost use Rattle.amr_engine.specs.Setting.{IsBesideSet, IsFaceSet, IsPlace, IsSideSet, LeafFacesHold, side_place, with_face};
+ghost use Rattle.amr_engine.specs.Setting.{IsBesideSet, IsFaceSet, IsPlace, IsSideSet, side_place, with_face};
 ghost use Rattle.amr_num.specs.declared.FaceAt.{FaceAt as Faces};
 ghost use Rattle.block_tree.specs.GridOf.{grid_of};
 ghost use Rattle.mesh_model.specs.Fields.ArrayPlaces as places;
@@ -13,7 +13,7 @@ ghost use Rattle.mesh_model.specs.Geometry.Limits.{IsShape};
 ghost use Rattle.mesh_model.specs.Tree.Kinds as kinds;
 ghost use Rattle.mesh_model.specs.Tree.Kinds.{holds, is_leaf, is_split};
 ghost use Rattle.mesh_model.specs.declared.fields.values.Var.TheVariants.{Face};
-ghost use Rattle.rank_world.specs.Holding.{LeavesHoldFaces, face_array};
+ghost use Rattle.rank_world.specs.Holding.{LeafFacesHold, LeavesHoldFaces, face_array};
 ghost use Rattle.std.specs.Prelude.{◌≡◌, ◌+◌, ◌<◌, ◌≤◌, ◌&&◌, ℤ, true, false, set, OnOk, IfErr};
 
 use amr_num::{Axis, BlockAt, CellAt, FaceAt};

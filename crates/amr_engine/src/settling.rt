@@ -5,7 +5,7 @@ ghost use Rattle.amr_num.specs.declared.Axis.TheVariants.{X, Y, Z};
 ghost use Rattle.amr_num.specs.declared.CellAt.{CellAt as Cells};
 ghost use Rattle.amr_engine.specs.Blocks.{IsSmallBlock};
 ghost use Rattle.amr_engine.specs.Flowing.{AreGuarded, IsReady};
-ghost use Rattle.amr_engine.specs.Settling.{AreCellsOf, AreFluxed, AreStepFaces, IsLost, IsRefused, IsSettled, IsStepped, MaySettle, OnlyWorkCells, WorkCellsHold, flows_at, node_above, work_cells};
+ghost use Rattle.amr_engine.specs.Settling.{AreFluxed, AreStepFaces, IsLost, IsRefused, IsSettled, IsStepped, MaySettle, OnlyCellsAndWork, OnlyWorkCells, WorkCellsHold, flows_at, node_above, work_cells};
 ghost use Rattle.block_tree.specs.GridOf.{grid_of};
 ghost use Rattle.block_tree.specs.Numbered.{IsNode, block_at};
 ghost use Rattle.flux_conserve.specs.Jumps as jumps_at;
@@ -19,7 +19,8 @@ ghost use Rattle.mesh_model.specs.Geometry.Places.{in_block};
 ghost use Rattle.mesh_model.specs.Fields.Ranks.{IsFit, OnlyOf};
 ghost use Rattle.mesh_model.specs.Language.Commands.{AreThree};
 ghost use Rattle.mesh_model.specs.declared.fields.values.Var.TheVariants.{Cell, CellWork};
-ghost use Rattle.rank_world.specs.Holding.{IsLeafNode, LeavesHold, LeavesInRange, OnlyCells, cell_array};
+ghost use Rattle.rank_world.specs.Exchanging.{IsWorldExchanged};
+ghost use Rattle.rank_world.specs.Holding.{IsLeafNode, LeavesHold, LeavesInRange, cell_array};
 ghost use Rattle.rank_world.specs.Writing.{IsLeafArray};
 ghost use Rattle.std.specs.Prelude.{◌≡◌, ◌<◌, ◌≤◌, ◌^◌, ◌&&◌, not, true, false, ℤ, Some, None, OnOk, IfOk, IfErr, find, length};
 ghost use Rattle.step_advect.specs.Applied.{AreInRange, IsApplied, first_out, flows_in, left_at, out_through};
@@ -35,7 +36,7 @@ use flux_conserve::is_at_jump;
 use mesh_model::geometry::axes::{block_on, is_periodic, roots};
 use mesh_model::{Shape, Var};
 use rank_world::World;
-use step_advect::{RangeAt, apply, take_cells};
+use step_advect::{RangeAt, apply};
 
 /// The most faces normal to an axis that a block's array has: those of 8 cells with 4 guard cells on each side.
 const MOST_FACES: usize = 17 * 16 * 16;
@@ -392,29 +393,21 @@ pub fn settle<const N: usize, const G: usize>(
     )
 }
 
-/// Copies a leaf's work cells over its cells of a variable. Its guard cells are as before.
+/// Exchanges a leaf's array of a variable with that of its work cells.
 fn take_leaf<const N: usize, const G: usize>(world: &mut World<N, G>, v: u32, node: u32)
     requires leaf { IsLeafArray N G world.old v node }
-    ensures only { OnlyOf world.old world.new 0 (Cell v) node }
+    ensures taken { IsWorldExchanged world.old world.new node (Cell v) CellWork }
     ensures fit { IsFit N G world.new }
-    ensures taken { AreCellsOf N G (cell_array world.new v node) (work_cells world.old node) }
 {
-    let _shape = world.tree().shape();
-    let Beside {
-        a,
-        b: _,
-        c: _,
-        d: _,
-        out,
-    } = world.beside(node, [Var::CellWork; 4], Var::Cell(v));
-    take_cells::<N, G>(a, out);
+    world.exchange(node, Var::Cell(v), Var::CellWork);
 }
 
-/// Copies each leaf's work cells over its cells of a variable.
+/// Makes each leaf's work cells its cells of a variable. No array is copied: the guard cells are those of the work cells
+/// then, and the work cells what the variable's were.
 pub fn take_over<const N: usize, const G: usize>(world: &mut World<N, G>, v: u32)
     requires fit { IsFit N G world.old }
     requires variable { v < world.old.told.counts.cells }
-    ensures only { OnlyCells world.old world.new v }
+    ensures only { OnlyCellsAndWork world.old world.new v }
     ensures fit { IsFit N G world.new }
     ensures holds { (content : Cells → ℤ) → WorkCellsHold world.old content → LeavesHold world.new v content }
 {

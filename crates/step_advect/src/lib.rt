@@ -15,7 +15,7 @@ mod update;
 
 use amr_num::{RANGE, carry};
 pub use fluxes::face_fluxes;
-pub use update::{RangeAt, apply, take_cells};
+pub use update::{RangeAt, apply};
 
 /// The flux through a face at `level` between two cells with the contents `low` and `high`, `low` on the side of
 /// the smaller position: what `speed` carries of the donor, which is the cell that it comes from, and 0 on a

@@ -8,7 +8,7 @@ ghost use Rattle.step_advect.specs.Applied.{AreInRange, inner};
 ghost use Rattle.step_advect.specs.Fluxed.{AreFacesWithin, AreSidesWithin};
 
 use crate::laws::{block_fluxes_are_of_leaves, block_steps_are_advects};
-use crate::{RangeAt, apply, face_fluxes, flux, settled, take_cells};
+use crate::{RangeAt, apply, face_fluxes, flux, settled};
 use amr_num::{Axis, OutOfMemory};
 use block_store::Cells;
 use std::alloc::Global;
@@ -295,24 +295,5 @@ fn contents_out_of_range_are_refused(rt: HostRuntime) {
     match step_there(alloc, StepCase { flux: 1, ..kept }) {
         Ok((flown, _)) => assert_eq!(rt; flown, Err(refused)),
         Err(OutOfMemory) => assert!(rt; false),
-    }
-}
-
-/// What a place has after a block's cells were taken from an array that has 5 there, where each place had 7 before.
-fn taken_there(alloc: Global, place: usize) -> Result<i64, OutOfMemory>
-    requires { place < 216 }
-{
-    let from = numbers_with(alloc, 216, place, 5)?;
-    let mut out = [7i64; 216];
-    take_cells::<4, 1>(&from, &mut out);
-    Ok(out[place])
-}
-
-#[test]
-fn cells_are_taken_without_guards(rt: HostRuntime) {
-    let alloc = rt.alloc();
-    // The places (1, 1, 1), (2, 2, 2) and (4, 4, 4) are cells, and (0, 0, 0), (0, 2, 2) and (5, 2, 2) are guard cells.
-    for (place, wanted) in [(43usize, 5i64), (86, 5), (172, 5), (0, 7), (84, 7), (89, 7)] {
-        assert_eq!(rt; taken_there(alloc, place), Ok(wanted), "{place}");
     }
 }

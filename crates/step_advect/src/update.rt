@@ -2,7 +2,7 @@
 
 ghost use Rattle.amr_num.specs.Numbers.{Within, at, sum_below};
 ghost use Rattle.amr_num.specs.declared.Axis.TheVariants.{X, Y, Z};
-ghost use Rattle.mesh_model.specs.Fields.ArrayPlaces.{IsRowWritten, IsSize, IsWritten, cell_extents, face_extents, interior, number_at, row_of, size_of};
+ghost use Rattle.mesh_model.specs.Fields.ArrayPlaces.{IsRowWritten, IsSize, cell_extents, face_extents, interior, number_at, row_of, size_of};
 ghost use Rattle.std.specs.Prelude.{◌≡◌, ℕ, ◌+◌, ◌*◌, ◌/◌, ◌%◌, ◌^◌, ◌<◌, ◌≤◌, ◌+ℤ◌, ◌-ℤ◌, IfErr, IfOk, Some, if◌then◌else◌, length, pos};
 ghost use Rattle.step_advect.specs.Applied as applied;
 ghost use Rattle.step_advect.specs.Applied.{AreFluxes, AreInRange, AreRowsSmall, AreStepArrays, IsApplied, first_out, flows_in, inner, left_at, out_along, out_through};
@@ -305,32 +305,5 @@ pub fn apply<const N: usize, const G: usize>(
             let along_z = outflow(N, G, Axis::Z, fz, outer[4], outer[5]);
             Ok(add(add(along_x, along_y), along_z))
         }
-    }
-}
-
-/// Copies the `m`-th row of a block's cells from another array of them.
-#[inline]
-fn take_row(n: usize, g: usize, from: &[i64], out: &mut [i64], m: usize)
-    requires size { IsSize n g }
-    requires from { length from.now ≡ size_of (cell_extents n g) }
-    requires out { length out.old ≡ size_of (cell_extents n g) }
-    requires row { m < n * n }
-    ensures { IsRowWritten (row_of (cell_extents n g) (interior n g) m) n (λ t. inner g (number_at (cell_extents n g) from.now) t (m % n) (m / n)) out.old out.new }
-{
-    let j = m % n;
-    let k = m / n;
-    let to = place(Extents::of_cells(n, g), g, g + j, g + k);
-    out[to..to + n].copy_from_slice(cell_row(n, g, from, j, k));
-}
-
-/// Copies a block's cells from another array of them, and leaves the guard cells of `out`.
-pub fn take_cells<const N: usize, const G: usize>(from: &[i64], out: &mut [i64])
-    requires size { IsSize N G }
-    requires from { length from.now ≡ size_of (cell_extents N G) }
-    requires out { length out.old ≡ size_of (cell_extents N G) }
-    ensures { IsWritten (cell_extents N G) (interior N G) (inner G (number_at (cell_extents N G) from.now)) out.old out.new }
-{
-    for m in 0..N * N {
-        take_row(N, G, from, out, m);
     }
 }

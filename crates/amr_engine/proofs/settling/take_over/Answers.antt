@@ -5,11 +5,8 @@ use Rattle.mesh_model.specs.Fields.Ranks.{IsFit}
 use Rattle.mesh_model.specs.Tree.Kinds.{Grid, is_leaf_block}
 use Rattle.mesh_model.specs.Tree.Order.{nodes}
 use Rattle.mesh_model.specs.Tree.ValidGrid.{Valid}
-use Rattle.rank_world.specs.Holding.{OnlyCells, cell_array}
-use Rattle.amr_engine.proofs.Filled.{cells_again}
-use Rattle.amr_engine.proofs.Settled.{AreTakenBelow, all_taken, leaf_taken, node_not_taken}
-use Rattle.amr_engine.proofs.Stepped.{in_shape}
-use Rattle.amr_engine.specs.Settling.{AreCellsOf, work_cells}
+use Rattle.amr_engine.proofs.Settled.{AreTakenBelow, all_taken, leaf_taken, node_not_taken, only_taken}
+use Rattle.amr_engine.specs.Settling.{OnlyCellsAndWork}
 use Rattle.amr_engine.proofs.settling.take_over.Goals as goal
 use Rattle.amr_engine.proofs.settling.take_over.Goals.{then-is_leaf, else-is_leaf}
 
@@ -25,16 +22,16 @@ loop-node-preserved g c =
     elim c.if-is_leaf.branch [
       | then-is_leaf w ↦
           let done = w.take_leaf.ensures in
+          let new = w.take_leaf.new.world in
           record {
-            only = subst (λ x. OnlyCells old x v) (sym w.world-is) (cells_again old now w.take_leaf.new.world v node before.only done.only);
+            only = subst (λ x. OnlyCellsAndWork old x v) (sym w.world-is) (only_taken node old now new v before.taken before.only done.taken);
             fit = subst (IsFit g.row.N g.row.G) (sym w.world-is) done.fit;
-            taken = subst (λ x. AreTakenBelow (node + 1) old x v) (sym w.world-is) (leaf_taken node old now w.take_leaf.new.world v before.taken before.only done.only
-                (in_shape (λ m d. AreCellsOf m d (cell_array w.take_leaf.new.world v node) (work_cells now node)) g.row.N g.row.G old.told.grid.shape c.requires.fit.sizes done.taken));
+            taken = subst (λ x. AreTakenBelow (node + 1) old x v) (sym w.world-is) (leaf_taken node old now new v before.taken before.only done.taken);
           }
       | else-is_leaf w ↦
           let inner = kind ∙ sym c.is_leaf.ensures ∙ w.if-is_leaf.false in
           record {
-            only = subst (λ x. OnlyCells old x v) (sym w.world-is) before.only;
+            only = subst (λ x. OnlyCellsAndWork old x v) (sym w.world-is) before.only;
             fit = subst (IsFit g.row.N g.row.G) (sym w.world-is) before.fit;
             taken = subst (λ x. AreTakenBelow (node + 1) old x v) (sym w.world-is) (node_not_taken node old now now v before.taken before.only inner);
           }

@@ -1,11 +1,11 @@
 use Rattle.mesh_model.specs.Fields.Ranks.{IsFit}
-use Rattle.rank_world.specs.Holding.{OnlyCells}
+use Rattle.amr_engine.specs.Settling.{OnlyCellsAndWork}
 use Rattle.amr_engine.proofs.Settled.{AreTakenBelow}
 use Rattle.amr_engine.proofs.settling.take_over.Given as goal
 
 abbrev pub invariant-loop-node : goal.invariant-loop-node
 invariant-loop-node g l = record {
-  only : OnlyCells l.initial.world l.world l.v;
+  only : OnlyCellsAndWork l.initial.world l.world l.v;
   fit : IsFit g.row.N g.row.G l.world;
   taken : AreTakenBelow l.node l.initial.world l.world l.v;
 }
