@@ -215,8 +215,8 @@ impl<const N: usize, const G: usize> Engine<N, G> {
             }
             Command::Regrid => self.regrid(),
             Command::Uniform { b } => self.uniform(b),
-//TODO            Command::FaceSet { at, value } => self.set_face(at, value),
-//TODO            Command::NetFlux => written(self.print_net_flux(sink)),
+            Command::FaceSet { at, value } => self.set_face(at, value),
+            Command::NetFlux => written(self.print_net_flux(sink)),
             Command::Advect { var, speeds } => self.advect(var, speeds),
             Command::PrintSize => written(print_size(sink, self.world.tree())),
             Command::PrintMesh => written(print_mesh(sink, self.world.tree())),
@@ -312,6 +312,22 @@ impl<const N: usize, const G: usize> Engine<N, G> {
         }
     }
 
+    /// Sets one leaf face, and with it what the coarse face at a jump has there.
+    fn set_face(&mut self, at: FaceAt, value: i64) -> Result<(), Cause>
+        requires face { IsSome (declared_of self.old).names.face }
+        requires value { IsLeafNumber value }
+        ensures changes { Changes result (plain self.old) (Command.FaceSet at value) (plain self.new) }
+        ensures declared { declared_of self.new ≡ declared_of self.old }
+    {
+        match set_face(&mut self.world, at, value) {
+            Ok(()) => {
+                agree(&mut self.world, Group::Face, false);
+                Ok(())
+            }
+            Err(NoFace) => Err(Cause::Place(Spot::Face(at))),
+        }
+    }
+
     /// Makes one step of the variable.
     fn advect(&mut self, var: u32, speeds: [i64; 3]) -> Result<(), Cause>
         requires variable { IsCellVariable (declared_of self.old).names var }
@@ -391,6 +407,17 @@ impl<const N: usize, const G: usize> Engine<N, G> {
             &self.world,
             node,
         ))
+    }
+
+    /// Prints the number of leaf cells with a net flux.
+    fn print_net_flux<K: Sink>(&self, sink: &mut K) -> Result<(), Failed>
+        requires { IsSome (declared_of self.now).names.face }
+        ensures { Prints result (K.taken sink.old) (netflux_text (plain self.now)) (K.taken sink.new) (K.faults sink.old) (K.faults sink.new) }
+    {
+        match self.names.face() {
+            Some(name) => print_netflux(sink, name, net_fluxes(&self.world)),
+            None => unreachable!(),
+        }
     }
 
     /// Prints the total of a cell variable.
