@@ -33,3 +33,4 @@ pub mod FacesFound
 pub mod UniformSet
 pub mod Netted
 pub mod FaceSet
+pub mod FacePut

@@ -3,16 +3,19 @@
 use crate::advection::step;
 use crate::cause::{Cause, Stop};
 use crate::facing::set_uniform;
+use crate::netting::net_fluxes;
+use crate::setting::{NoFace, set_face};
 use crate::filling::fill_leaves;
 use crate::marking::{Where, mark_where};
 use crate::region::{CellBox, Fill, Region};
 use crate::totals::total;
-use amr_num::{BlockAt, OutOfMemory};
-use amr_report::{print_guards, print_mesh, print_size, print_total, print_tree, print_var};
+use amr_num::{BlockAt, FaceAt, OutOfMemory};
+use amr_report::{print_guards, print_mesh, print_netflux, print_size, print_total, print_tree, print_var};
 use block_store::Layout;
 use block_tree::Marks;
+use edge_average::agree;
 use guard_fill::{fill, restrict_all};
-use mesh_model::Group;
+use mesh_model::{Group, Spot};
 use mesh_model::language::names::Names;
 use mesh_model::language::script::{Command, Declared, Line};
 use outside_io::Failed;
@@ -89,7 +92,7 @@ impl<const N: usize, const G: usize> Engine<N, G> {
     ghost use Rattle.mesh_model.specs.Run.Runs.{KeepsBalance, KeepsOuts, KeepsTotals, StaysPositive, mesh_after, text_of};
     ghost use Rattle.mesh_model.specs.Fields.Start.{start_mesh};
     ghost use Rattle.mesh_model.specs.Run.Stops.{refusal};
-    ghost use Rattle.mesh_model.specs.Run.Texts.{total_text, variable_text};
+    ghost use Rattle.mesh_model.specs.Run.Texts.{netflux_text, total_text, variable_text};
     ghost use Rattle.outside_io.specs.Moved.{Takes};
     ghost use Rattle.std.specs.Prelude.{◌≤◌, ◌^◌, true, IfErr, IfOk, IsSome, OnErr, OnOk, length};
 
@@ -314,8 +317,7 @@ impl<const N: usize, const G: usize> Engine<N, G> {
 
     /// Sets one leaf face, and with it what the coarse face at a jump has there.
     fn set_face(&mut self, at: FaceAt, value: i64) -> Result<(), Cause>
-        requires face { IsSome (declared_of self.old).names.face }
-        requires value { IsLeafNumber value }
+        requires fits { IsCommandOf (declared_of self.old) (Command.FaceSet at value) }
         ensures changes { Changes result (plain self.old) (Command.FaceSet at value) (plain self.new) }
         ensures declared { declared_of self.new ≡ declared_of self.old }
     {
