@@ -1,6 +1,6 @@
 -- The first number of the regridded mesh that is out of range is the first that is moved.
-use Rattle.std.proofs.Common.{◌≡◌, ℕ, zero, suc, ◌+◌, ◌<◌, ◌≤◌, ◌^◌, Bool, true, false, List, [], ◌∷◌, ◌++◌, map, length, ℤ, pos, Option, Some, None, refl, sym, ap, ap₂, subst, ◌∙◌, arith}
-use Rattle.std.specs.Prelude.{if◌then◌else◌, ◌&&◌, filter, find, flat_map, unsigned_abs, slice_index_or}
+use Rattle.std.proofs.Common.{◌≡◌, ℕ, zero, suc, ◌+◌, ◌^◌, Bool, true, false, List, [], ◌∷◌, ◌++◌, map, length, ℤ, pos, Option, Some, None, refl, sym, ap, ap₂, ◌∙◌, arith}
+use Rattle.std.specs.Prelude.{if◌then◌else◌, ◌&&◌, filter, find, flat_map, unsigned_abs}
 use Rattle.std.specs.List.{range_with_len}
 use Rattle.std.specs.Option.{option_or, option_map}
 use Rattle.std.proofs.lemmas.Bool.{ltb-true}
@@ -10,16 +10,15 @@ use Rattle.amr_num.specs.declared.Axis.{Axis}
 use Rattle.amr_num.specs.declared.Axis.TheVariants.{X, Y, Z}
 use Rattle.amr_num.specs.declared.BlockAt.{BlockAt}
 use Rattle.amr_num.specs.declared.CellAt.{CellAt}
-use Rattle.amr_num.specs.declared.EdgeAt.{EdgeAt}
 use Rattle.amr_num.specs.declared.FaceAt.{FaceAt}
 use Rattle.mesh_model.specs.Fields.Firsts.{first_below, first_in_places}
 use Rattle.mesh_model.specs.Tree.Order.{nodes}
 use Rattle.mesh_model.specs.Tree.Kinds.{Grid, is_leaf, is_leaf_block, is_leaf_face, is_leaf_edge}
-use Rattle.mesh_model.specs.Fields.Plain.{marked, Mesh, on_cells}
+use Rattle.mesh_model.specs.Fields.Plain.{marked, Mesh}
 use Rattle.mesh_model.specs.Geometry.Canonical.{canonical_face, canonical_on, is_canonical, is_canonical_edge}
 use Rattle.mesh_model.specs.Geometry.Coordinates.{face_of}
 use Rattle.mesh_model.specs.Geometry.Places.{block_cells, block_faces, box_list, in_block, longer_on}
-use Rattle.mesh_model.specs.Fields.RangeWalk.{cell_above, cells_walked, edge_above, edges_walked, face_above, faces_walked, first_cell_above, first_excess, first_of_all, is_above, out_above, variables}
+use Rattle.mesh_model.specs.Fields.RangeWalk.{cell_above, edge_above, edges_walked, face_above, faces_walked, first_cell_above, first_excess, first_of_all, is_above, out_above, variables}
 use Rattle.mesh_model.specs.Tree.Regrown.{new_grid}
 use Rattle.mesh_model.specs.Fields.Regrid.{regrid}
 use Rattle.mesh_model.specs.Tree.ValidGrid.{Valid}
@@ -38,7 +37,7 @@ use Rattle.rank_world.specs.declared.faces.FaceAbove.{FaceAbove}
 use Rattle.rank_world.specs.FaceRange.{axis_above, face_above_at}
 use Rattle.rank_world.proofs.FaceBlocks.{leaf_face_seen}
 use Rattle.regrid_move.specs.FaceMoves.{block_face_stop, face_range, faces_stop, node_face_stop}
-use Rattle.regrid_move.specs.Near.{all_stop, block_stop, node_stop, variable_stop, view_stop}
+use Rattle.regrid_move.specs.Near.{block_stop, node_stop, variable_stop, view_stop}
 use Rattle.regrid_move.specs.Regrids.{first_moved_excess}
 
 -- ---- the first of some

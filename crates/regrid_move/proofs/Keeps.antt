@@ -1,6 +1,6 @@
 -- Sides of a child that are kept, and faces of it that are split from its parent's.
-use Rattle.std.proofs.Common.{◌≡◌, ◌≢◌, ℕ, suc, ◌+◌, ◌*◌, ◌/◌, ◌%◌, ◌^◌, ◌<◌, ◌≤◌, Bool, true, false, not, ◌||◌, ◌&&◌, ◌==◌, List, ℤ, Some, refl, sym, ap, ap₂, subst, ◌∙◌, arith, inl, inr, eqb-true, eq-eqb}
-use Rattle.std.proofs.lemmas.Bool.{and_parts, cases_Bool}
+use Rattle.std.proofs.Common.{◌≡◌, ℕ, ◌+◌, ◌/◌, ◌%◌, ◌^◌, ◌<◌, ◌≤◌, Bool, true, false, not, ◌&&◌, List, ℤ, sym, ap, ap₂, subst, ◌∙◌, arith, inl, inr, eqb-true, eq-eqb}
+use Rattle.std.proofs.lemmas.Bool.{and_parts}
 use Rattle.amr_num.specs.Numbers.{Within}
 use Rattle.amr_num.specs.declared.Axis.{Axis}
 use Rattle.amr_num.specs.declared.Axis.TheVariants.{X, Y, Z}
@@ -9,15 +9,14 @@ use Rattle.amr_num.specs.declared.FaceAt.{FaceAt}
 use Rattle.mesh_model.specs.declared.geometry.Shape.{Shape}
 use Rattle.mesh_model.specs.Geometry.Blocks.{InDomain, child_block}
 use Rattle.mesh_model.specs.Geometry.Canonical.{canonical_on}
-use Rattle.mesh_model.specs.Geometry.Coordinates.{face_of, sub_face}
+use Rattle.mesh_model.specs.Geometry.Coordinates.{face_of}
 use Rattle.mesh_model.specs.Geometry.Places.{in_block, longer_on}
 use Rattle.mesh_model.specs.Tree.Kinds.{Grid, is_leaf_block, is_leaf_face, is_split_block, is_split_face}
 use Rattle.mesh_model.specs.Tree.ValidGrid.{Valid}
-use Rattle.mesh_model.specs.Fields.ArrayPlaces.{HoldsFaces, number_at, face_extents}
+use Rattle.mesh_model.specs.Fields.ArrayPlaces.{HoldsFaces}
 use Rattle.mesh_model.specs.Fields.FaceSplits.{AreFacesSplit, KeptSidesHold, OtherSidesLieInside, SourcesAreSmall, all_faces, by_axis, is_kept_side, position}
 use Rattle.mesh_model.specs.Fields.FinePlaces.{faces_in}
 use Rattle.mesh_model.specs.Fields.Octants.{half_at}
-use Rattle.mesh_model.specs.Fields.Plain.{Mesh}
 use Rattle.mesh_model.specs.Fields.Ranks.{IsSized, WorldState}
 use Rattle.mesh_model.specs.Fields.Views.{cross, face_view, is_even}
 use Rattle.mesh_model.proofs.FieldLemmas.CellKinds.{kinds_of_tiles, wide_of}
@@ -27,7 +26,6 @@ use Rattle.regrid_move.specs.FaceMoves.{AxisMoved}
 use Rattle.mesh_model.proofs.TreeLemmas.Levels.{is_child}
 use Rattle.mesh_model.proofs.TreeLemmas.Tests.{either_true, or_left, or_right, refuted}
 use Rattle.mesh_model.proofs.TreeLemmas.Tiling.{child_is_no_leaf, child_of_whole, leaf_says}
-use Rattle.block_tree.specs.Beside.{block_beside}
 use Rattle.block_tree.specs.Numbered.{block_at}
 use Rattle.block_tree.specs.SideFaces.{face_name, side_position}
 use Rattle.block_tree.proofs.Leaves.{split_leaf}
@@ -37,7 +35,7 @@ use Rattle.prolong_op.proofs.FaceNames.{even_face}
 use Rattle.prolong_op.proofs.FaceRows.{above_in_block}
 use Rattle.rank_world.specs.Holding.{IsLeafNode, IsOfValidMesh, LeavesHoldFaces, face_array}
 use Rattle.rank_world.proofs.FaceBlocks.{leaf_face_seen}
-use Rattle.regrid_move.specs.FaceKeeps.{AreBitsOf, AreKeptSides, IsKeptSide, NoLeafBeside, OthersStay, SideHolds, IsLeafBeside, IsSideCopied, direction_of, side_of}
+use Rattle.regrid_move.specs.FaceKeeps.{AreBitsOf, AreKeptSides, IsKeptSide, OthersStay, IsLeafBeside, IsSideCopied, side_of}
 use Rattle.regrid_move.specs.declared.splitting.Sides.{Sides}
 use Rattle.regrid_move.proofs.SideLeaves.{across, by_spot, calm_beside, no_leaf_face, seen_beside}
 

@@ -1,11 +1,10 @@
 -- Leaves of the new grid: they are near old ones, and hold the regridded mesh.
-use Rattle.std.proofs.Common.{◌≡◌, ℕ, ◌+◌, ◌*◌, ◌<◌, ◌⊎◌, Bool, true, false, ℤ, pos, refl, sym, ap, ap₂, subst, ◌∙◌, arith, inl, inr}
+use Rattle.std.proofs.Common.{◌≡◌, ℕ, ◌<◌, Bool, true, false, ℤ, pos, refl, sym, ap, ap₂, subst, ◌∙◌, arith, inl, inr}
 use Rattle.std.specs.Prelude.{if◌then◌else◌, ◌&&◌}
 use Rattle.amr_num.specs.declared.Axis.{Axis}
 use Rattle.amr_num.specs.declared.BlockAt.{BlockAt}
-use Rattle.amr_num.specs.declared.CellAt.{CellAt}
 use Rattle.amr_num.specs.declared.FaceAt.{FaceAt}
-use Rattle.mesh_model.specs.Geometry.Blocks.{child_block, parent_block}
+use Rattle.mesh_model.specs.Geometry.Blocks.{parent_block}
 use Rattle.mesh_model.specs.Tree.Order.{IsIn}
 use Rattle.mesh_model.specs.Fields.ArrayPlaces.{HoldsFaces, HoldsViews}
 use Rattle.mesh_model.specs.Fields.FinePlaces.{faces_in}
@@ -29,7 +28,7 @@ use Rattle.mesh_model.proofs.TreeLemmas.Tiling.{leaf_says}
 use Rattle.mesh_model.proofs.FieldLemmas.ValidGrid.{leaf_whole}
 use Rattle.block_tree.specs.Growing.{MayRegrow}
 use Rattle.block_tree.specs.Numbered.{block_at}
-use Rattle.rank_world.specs.Holding.{IsLeafNode, LeavesHold, LeavesHoldFaces, face_array, numbers_of}
+use Rattle.rank_world.specs.Holding.{LeavesHold, LeavesHoldFaces, face_array, numbers_of}
 use Rattle.rank_world.proofs.FaceBlocks.{leaf_face_seen}
 use Rattle.regrid_move.specs.FaceMoves.{LeafFacesMoved}
 use Rattle.regrid_move.specs.Near.{AreNear, IsNear, LeavesMoved}

@@ -1,6 +1,6 @@
 -- A world of one node whose faces all have one number is that of a valid mesh.
-use Rattle.std.proofs.Common.{◌≡◌, ℕ, ◌+◌, ◌<◌, ◌≤◌, ◌^◌, Bool, true, false, ◌||◌, ◌&&◌, List, [], length, ℤ, pos, Option, Some, None, refl, sym, ap, ap₂, subst, ◌∙◌, arith, inl, inr}
-use Rattle.std.specs.Prelude.{replicate, if◌then◌else◌, slice_index_or}
+use Rattle.std.proofs.Common.{◌≡◌, ℕ, ◌+◌, ◌<◌, ◌^◌, Bool, true, false, ◌||◌, ◌&&◌, [], length, pos, Option, Some, None, refl, sym, ap, ap₂, subst, ◌∙◌, arith, inl, inr}
+use Rattle.std.specs.Prelude.{replicate, if◌then◌else◌}
 use Rattle.std.proofs.lemmas.List.{get_or-replicate}
 use Rattle.amr_num.specs.Numbers.{Within}
 use Rattle.amr_num.specs.declared.Axis.{Axis}
@@ -8,10 +8,10 @@ use Rattle.amr_num.specs.declared.Axis.TheVariants.{X, Y, Z}
 use Rattle.amr_num.specs.declared.BlockAt.{BlockAt}
 use Rattle.amr_num.specs.declared.CellAt.{CellAt}
 use Rattle.amr_num.specs.declared.FaceAt.{FaceAt}
-use Rattle.mesh_model.specs.Geometry.Canonical.{canonical_on, is_canonical}
+use Rattle.mesh_model.specs.Geometry.Canonical.{canonical_on}
 use Rattle.mesh_model.specs.Geometry.Coordinates.{face_of, high_cell, low_cell}
 use Rattle.mesh_model.specs.Geometry.Places.{in_block, longer_on}
-use Rattle.mesh_model.specs.Fields.ArrayPlaces.{HoldsFaces, face_extents, number_at, place_in, size_of}
+use Rattle.mesh_model.specs.Fields.ArrayPlaces.{face_extents, number_at, place_in}
 use Rattle.mesh_model.specs.Fields.FinePlaces.{faces_in}
 use Rattle.mesh_model.specs.Fields.Plain.{Mesh, on_faces}
 use Rattle.mesh_model.specs.Fields.Ranks.{IsSized, WorldState}
@@ -27,7 +27,7 @@ use Rattle.mesh_model.proofs.TreeLemmas.Tests.{refuted}
 use Rattle.mesh_model.proofs.TreeLemmas.Tiling.{lies_refl, split_says}
 use Rattle.block_tree.specs.Numbered.{block_at, block_in}
 use Rattle.block_tree.proofs.Members.{at_in}
-use Rattle.rank_world.specs.Holding.{IsLeafNode, IsOfMesh, IsOfValidMesh, LeavesHoldFaces, face_array}
+use Rattle.rank_world.specs.Holding.{IsOfValidMesh, LeavesHoldFaces, face_array}
 use Rattle.rank_world.proofs.FaceBlocks.{leaf_face_seen}
 use Rattle.rank_world.proofs.Meshes.{of_some_mesh}
 

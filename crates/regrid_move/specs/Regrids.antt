@@ -1,9 +1,8 @@
 -- What a regrid makes of a world, and why it is refused.
-use Rattle.std.specs.Prelude.{◌≡◌, ℕ, ◌<◌, length, Option, None, Some}
+use Rattle.std.specs.Prelude.{◌≡◌, ◌<◌, length, Option, None, Some}
 use Rattle.std.specs.Option.{option_or}
 use Rattle.mesh_model.specs.Geometry.Limits.{most_nodes}
 use Rattle.mesh_model.specs.Tree.Order.{nodes}
-use Rattle.mesh_model.specs.Tree.Kinds.{Grid}
 use Rattle.mesh_model.specs.Fields.Plain.{marked, Mesh}
 use Rattle.mesh_model.specs.Fields.RangeWalk.{first_excess}
 use Rattle.mesh_model.specs.Fields.Ranks.{WorldState}

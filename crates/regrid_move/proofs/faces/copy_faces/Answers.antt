@@ -1,4 +1,4 @@
-use Rattle.std.proofs.Common.{◌≡◌, sym, ap, ◌∙◌, arith}
+use Rattle.std.proofs.Common.{sym, ap, ◌∙◌, arith}
 use Rattle.mesh_model.specs.Fields.Ranks.{Told}
 use Rattle.block_tree.specs.Numbered.{block_at}
 use Rattle.regrid_move.proofs.FaceMoved.{may_again, only_three, three_moved}

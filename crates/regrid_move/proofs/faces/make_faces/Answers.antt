@@ -1,6 +1,5 @@
-use Rattle.std.proofs.Common.{◌≡◌, ◌<◌, ◌⊎◌, ℕ, arith, false, inl, inr, subst, sym, true}
-use Rattle.mesh_model.specs.Geometry.Blocks.{child_block, parent_block}
-use Rattle.mesh_model.specs.Tree.Order.{IsIn}
+use Rattle.std.proofs.Common.{◌≡◌, ◌<◌, arith, false, subst}
+use Rattle.mesh_model.specs.Geometry.Blocks.{parent_block}
 use Rattle.mesh_model.specs.Tree.Kinds.{Grid, is_leaf_block}
 use Rattle.regrid_move.proofs.Moved.{only_children}
 use Rattle.regrid_move.proofs.faces.make_faces.Goals as goal

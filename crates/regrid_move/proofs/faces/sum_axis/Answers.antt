@@ -1,9 +1,8 @@
-use Rattle.std.proofs.Common.{◌≡◌, ◌<◌, length, subst, sym, ap, ◌∙◌, List, ℤ}
+use Rattle.std.proofs.Common.{◌≡◌, ◌<◌, length, subst, sym, ◌∙◌, List, ℤ}
 use Rattle.mesh_model.specs.declared.fields.values.Var.TheVariants.{Face}
 use Rattle.mesh_model.specs.Fields.Arrays.{Counts, var_length}
 use Rattle.mesh_model.specs.Fields.ArrayPlaces.{HoldsFaces, extents_of, number_at}
 use Rattle.mesh_model.specs.Fields.FinePlaces.{FaceOctantHolds, FineSumsAreSmall, IsSummed, faces_in}
-use Rattle.mesh_model.specs.Tree.Kinds.{Grid}
 use Rattle.mesh_model.specs.Tree.ValidGrid.{Valid}
 use Rattle.mesh_model.proofs.FieldLemmas.Worlds.{fit_after, has_array, only_of, written_in}
 use Rattle.block_tree.proofs.Facts.{known}

@@ -1,4 +1,4 @@
-use Rattle.std.proofs.Common.{◌≡◌, ◌≢◌, ◌+◌, ◌<◌, ℕ, arith, ap, below_more, false, subst, sym, ◌∙◌}
+use Rattle.std.proofs.Common.{◌≡◌, arith, ap, below_more, subst, sym, ◌∙◌}
 use Rattle.mesh_model.specs.Geometry.Blocks.{child_block}
 use Rattle.mesh_model.specs.Tree.Order.{IsIn}
 use Rattle.mesh_model.specs.Tree.Kinds.{Grid}
@@ -6,7 +6,7 @@ use Rattle.mesh_model.specs.Fields.FinePlaces.{faces_in}
 use Rattle.mesh_model.specs.Fields.Ranks.{Told}
 use Rattle.mesh_model.specs.Tree.ValidGrid.{Valid}
 use Rattle.block_tree.proofs.Facts.{known}
-use Rattle.block_tree.specs.Numbered.{IsNode, block_at, IsNumberOf}
+use Rattle.block_tree.specs.Numbered.{block_at, IsNumberOf}
 use Rattle.rank_world.specs.Holding.{face_array}
 use Rattle.restrict_op.proofs.FaceOctants.{all_make}
 use Rattle.regrid_move.specs.FaceMoves.{AxisOctantMoved}

@@ -1,11 +1,9 @@
-use Rattle.std.proofs.Common.{◌≡◌, ◌<◌, ap, false, length, subst, sym, ◌∙◌, List, ℤ}
+use Rattle.std.proofs.Common.{◌≡◌, ◌<◌, length, subst, sym, ◌∙◌, List, ℤ}
 use Rattle.mesh_model.specs.Fields.Ranks.{world_with}
 use Rattle.mesh_model.specs.declared.fields.values.Var.TheVariants.{Cell}
 use Rattle.mesh_model.specs.Fields.Arrays.{Counts, var_length}
-use Rattle.mesh_model.specs.Geometry.Blocks.{child_block}
 use Rattle.mesh_model.specs.Fields.Octants.{IsSplit, cells_of}
 use Rattle.mesh_model.specs.Fields.ArrayPlaces.{HoldsViews}
-use Rattle.mesh_model.specs.Tree.Kinds.{is_split_block}
 use Rattle.mesh_model.specs.Tree.ValidGrid.{Valid}
 use Rattle.mesh_model.proofs.FieldLemmas.BlockOctants.{child_parted}
 use Rattle.mesh_model.proofs.FieldLemmas.Worlds.{fit_after, has_array, only_of, written_in}

@@ -1,4 +1,4 @@
-use Rattle.std.proofs.Common.{◌≡◌, ◌≢◌, ◌+◌, ◌<◌, ℕ, arith, ap, below_more, false, subst, sym, ◌∙◌}
+use Rattle.std.proofs.Common.{◌≡◌, arith, ap, below_more, subst, sym, ◌∙◌}
 use Rattle.mesh_model.specs.Geometry.Blocks.{child_block}
 use Rattle.mesh_model.specs.Tree.Order.{IsIn}
 use Rattle.mesh_model.specs.Tree.Kinds.{Grid}
@@ -6,9 +6,9 @@ use Rattle.mesh_model.specs.Fields.Ranks.{Told}
 use Rattle.mesh_model.specs.Tree.ValidGrid.{Valid}
 use Rattle.mesh_model.specs.declared.fields.values.Var.TheVariants.{Cell}
 use Rattle.mesh_model.proofs.FieldLemmas.BlockOctants.{octants_make}
-use Rattle.mesh_model.proofs.FieldLemmas.Worlds.{only_of_again, only_of_none}
+use Rattle.mesh_model.proofs.FieldLemmas.Worlds.{only_of_again}
 use Rattle.block_tree.proofs.Facts.{known}
-use Rattle.block_tree.specs.Numbered.{IsNode, block_at, IsNumberOf}
+use Rattle.block_tree.specs.Numbered.{block_at, IsNumberOf}
 use Rattle.rank_world.specs.Holding.{numbers_of}
 use Rattle.regrid_move.specs.Near.{OctantMoved}
 use Rattle.regrid_move.proofs.Moved.{leaf_node_of, may_again}

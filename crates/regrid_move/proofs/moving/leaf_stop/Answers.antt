@@ -1,8 +1,7 @@
-use Rattle.std.proofs.Common.{rules, ◌≡◌, ◌<◌, ◌+◌, ℤ, None, Some, sym, ap, ap₂, subst, ◌∙◌, to_z, of_z}
+use Rattle.std.proofs.Common.{rules, ◌≡◌, ◌+◌, Some, sym, ap, ap₂, subst, ◌∙◌, to_z, of_z}
 use Rattle.std.specs.Int.{w128}
 use Rattle.std.specs.Option.{option_map}
 use Rattle.amr_num.specs.declared.BlockAt.{BlockAt}
-use Rattle.amr_num.specs.declared.CellAt.{CellAt}
 use Rattle.block_tree.specs.Numbered.{block_at}
 use Rattle.mesh_model.specs.Fields.ArrayPlaces.{HoldsViews, cell_extents, number_at}
 use Rattle.mesh_model.specs.Tree.Kinds.{Grid}

@@ -1,6 +1,5 @@
-use Rattle.std.proofs.Common.{◌≡◌, ◌<◌, ◌+◌, ℕ, ℤ, None, sym, ap, subst, ◌∙◌, arith, inl, inr}
+use Rattle.std.proofs.Common.{◌≡◌, ◌<◌, None, sym, subst, ◌∙◌, arith, inl, inr}
 use Rattle.std.proofs.lemmas.Bool.{cases_lt}
-use Rattle.amr_num.specs.declared.CellAt.{CellAt}
 use Rattle.mesh_model.specs.Fields.Arrays.{Counts}
 use Rattle.mesh_model.specs.Fields.Ranks.{Told}
 use Rattle.rank_world.specs.Holding.{LeavesHold}

@@ -6,7 +6,7 @@ use Rattle.mesh_model.specs.Fields.Ranks.{Told}
 use Rattle.rank_world.specs.Holding.{IsLeafNode}
 use Rattle.regrid_move.specs.FaceMoves.{FacesMoved, faces_stop, node_face_stop}
 use Rattle.block_store.proofs.Aboves.{found_here, none_here}
-use Rattle.regrid_move.proofs.FaceMoved.{faces_again, faces_stay, may_all_again, no_faces}
+use Rattle.regrid_move.proofs.FaceMoved.{faces_again, faces_stay, no_faces}
 use Rattle.regrid_move.proofs.ranging.move_face_variable.Goals as goal
 
 pub loop-node-init : goal.loop-node-init

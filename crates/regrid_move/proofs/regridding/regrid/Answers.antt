@@ -9,11 +9,9 @@ use Rattle.mesh_model.specs.Tree.Kinds.{Grid}
 use Rattle.mesh_model.specs.Fields.Plain.{marked, Mesh}
 use Rattle.mesh_model.specs.Fields.Ranks.{Told, WorldState}
 use Rattle.mesh_model.specs.Tree.Regrown.{new_grid, regrown}
-use Rattle.mesh_model.specs.Fields.Regrid.{regrid}
 use Rattle.mesh_model.specs.Tree.ValidGrid.{FewNodes, Valid}
 use Rattle.block_tree.specs.declared.tree.GrowStop.{GrowStop}
 use Rattle.block_tree.specs.declared.tree.GrowStop.TheVariants as grow
-use Rattle.block_tree.specs.declared.tree.Tree.{Tree}
 use Rattle.block_tree.specs.GridOf.{grid_of}
 use Rattle.block_tree.specs.Growing.{IsGrowStop, grid_after}
 use Rattle.block_tree.proofs.Facts.{known}

@@ -1,6 +1,4 @@
 use Rattle.std.proofs.Common.{◌≡◌}
-use Rattle.amr_num.specs.declared.Axis.{Axis}
-use Rattle.amr_num.specs.declared.Axis.TheVariants.{X, Y, Z}
 use Rattle.mesh_model.specs.Fields.FaceSplits.{by_axis}
 use Rattle.mesh_model.proofs.FieldLemmas.Beside.{three}
 use Rattle.rank_world.specs.Holding.{face_array}
