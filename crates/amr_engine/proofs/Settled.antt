@@ -54,9 +54,6 @@ pub record AreTakenBelow (m : ℕ) (old new : WorldState) (v : ℕ) : Type 0 whe
 pub none_taken : (w : WorldState) (v : ℕ) → AreTakenBelow 0 w w v
 none_taken w v = record { done = λ k h leaf. absurd (omega arith); rest = λ k h. refl }
 
-pub cells_only_none : (w : WorldState) (v : ℕ) → OnlyCellsAndWork w w v
-cells_only_none w v = record { told = refl; others = λ u node no_cell no_work. refl }
-
 module _ (m : ℕ) (old now new : WorldState) (v : ℕ) (is : AreTakenBelow m old now v) (before : OnlyCellsAndWork old now v) where
   -- a leaf does
   module _ (taken : IsWorldExchanged now new m (Cell v) CellWork) where
