@@ -48,6 +48,9 @@ fn a_world_of_two_blocks(rt: HostRuntime) {
     out[43] = 6;
     assert_eq!(rt; first, 0);
     assert_eq!(rt; again.values(Var::CellWork, 1)[43], 6);
+    again.exchange(1, Var::Cell(0), Var::CellWork);
+    assert_eq!(rt; again.values(Var::Cell(0), 1)[43], 6);
+    assert_eq!(rt; again.values(Var::CellWork, 1)[43], 0);
 }
 
 /// Puts a number at a place of an array of a node that is there.
@@ -127,31 +130,4 @@ fn faces_out_of_range(rt: HostRuntime) {
     };
     assert_eq!(rt; first_two(&world, 1), (Some(face), Some(work)));
     assert_eq!(rt; first_two(&world, 0), (None, None));
-}
-
-#[tactic(auto, unfolding(mesh_model::specs::Fields::Arrays::with_array))]
-#[test]
-fn the_arrays_of_a_node_change_places(rt: HostRuntime) {
-    let shape = Shape {
-        rx: 2,
-        ry: 1,
-        rz: 1,
-        n: 4,
-        g: 1,
-        min: 0,
-        max: 1,
-        sides: [SideKind::Periodic; 6],
-    };
-    let layout = Layout {
-        cells: 1,
-        faces: 0,
-        edges: 0,
-    };
-    let mut world = World::<4, 1>::new(rt.alloc(), shape, layout).expect(&rt, "memory");
-    world.values_mut(Var::Cell(0), 1)[43] = 5;
-    world.values_mut(Var::CellWork, 1)[43] = 6;
-    world.exchange(1, Var::Cell(0), Var::CellWork);
-    assert_eq!(rt; world.values(Var::Cell(0), 1)[43], 6);
-    assert_eq!(rt; world.values(Var::CellWork, 1)[43], 5);
-    assert_eq!(rt; world.values(Var::Cell(0), 0)[43], 0);
 }
