@@ -33,7 +33,7 @@ use Rattle.block_tree.specs.declared.tree.Tree.{Tree}
 use Rattle.block_tree.proofs.Facts.{known}
 use Rattle.block_store.specs.declared.regions.PlaceAt.{PlaceAt}
 use Rattle.rank_world.specs.Contents.{node_of}
-use Rattle.rank_world.specs.Holding.{IsLeafNode, LeavesHoldFaces, face_array}
+use Rattle.rank_world.specs.Holding.{IsLeafNode, LeafFacesHold, LeavesHoldFaces, face_array}
 use Rattle.rank_world.proofs.Contents.{along, number_of_node}
 use Rattle.rank_world.proofs.FaceContents.{after_is, canonical_inside, face_of_high, face_of_low}
 use Rattle.amr_engine.specs.Setting.{IsBesideSet, IsFaceSet, IsPlace, IsSideSet, name_at, number_in, side_face, side_place, with_face}

@@ -27,7 +27,6 @@ pub mod Stepped
 pub mod Advanced
 pub mod Balanced
 pub mod FacesMade
-pub mod Faced
 pub mod Uniform
 pub mod FacesFound
 pub mod UniformSet

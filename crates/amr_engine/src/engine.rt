@@ -219,7 +219,6 @@ impl<const N: usize, const G: usize> Engine<N, G> {
             Command::Regrid => self.regrid(),
             Command::Uniform { b } => self.uniform(b),
             Command::FaceSet { at, value } => self.set_face(at, value),
-            Command::NetFlux => written(self.print_net_flux(sink)),
             Command::Advect { var, speeds } => self.advect(var, speeds),
             Command::PrintSize => written(print_size(sink, self.world.tree())),
             Command::PrintMesh => written(print_mesh(sink, self.world.tree())),
@@ -227,6 +226,7 @@ impl<const N: usize, const G: usize> Engine<N, G> {
             Command::PrintGuards { group, at } => self.print_guards(group, at, sink),
             Command::PrintVar { group } => written(self.print_variable(group, sink)),
             Command::Total { var } => written(self.print_total(var, sink)),
+            Command::NetFlux => written(self.print_net_flux(sink)),
             _ => unreachable!(),
         }
     }

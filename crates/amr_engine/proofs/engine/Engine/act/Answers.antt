@@ -1,7 +1,7 @@
 use Rattle.std.proofs.Common.{◌^◌, Ok, arith, refl, sym, ap, subst, ◌∙◌}
 use Rattle.mesh_model.specs.Run.Texts.{mesh_text, size_text}
 use Rattle.mesh_model.specs.Run.TreeText.{tree_text}
-use Rattle.mesh_model.specs.declared.language.script.Command.TheVariants.{Advect, DerefineWhere, FillAll, FillBox, MarkDerefine, MarkRefine, PrintMesh, PrintSize, PrintTree, PrintVar, RefineWhere, Regrid, Total}
+use Rattle.mesh_model.specs.declared.language.script.Command.TheVariants.{Advect, DerefineWhere, FaceSet, FillAll, FillBox, MarkDerefine, MarkRefine, NetFlux, PrintMesh, PrintSize, PrintTree, PrintVar, RefineWhere, Regrid, Total, Uniform}
 use Rattle.amr_num.proofs.Machine.{kept}
 use Rattle.mesh_model.specs.Fields.Setting.{derefine_where, refine_where}
 use Rattle.mesh_model.specs.Language.Commands.{IsCommandOf}
@@ -11,7 +11,7 @@ use Rattle.amr_engine.specs.Plain.{declared_of, plain}
 use Rattle.amr_engine.specs.Regions.{filled}
 use Rattle.amr_engine.specs.declared.region.Region.TheVariants.{Everywhere, Within}
 use Rattle.amr_report.specs.Printing.{Prints}
-use Rattle.amr_engine.specs.Stopping.{Acts, Written}
+use Rattle.amr_engine.specs.Stopping.{Acts, Changes, Written}
 use Rattle.amr_engine.proofs.Acted.{acts_changing, acts_printing}
 use Rattle.amr_engine.proofs.engine.Engine.act.Goals as goal
 
@@ -56,6 +56,17 @@ returns-in-MarkDerefine-clause-acts g c = acts_changing c.mark_derefine.result (
 pub returns-in-Regrid-clause-acts : goal.returns-in-Regrid-clause-acts
 returns-in-Regrid-clause-acts g c = acts_changing c.regrid.result (plain c.args.self.now) (plain c.regrid.new.self) c.args.command (Regrid) (g.K.Sink.taken c.args.sink.now) (g.K.Sink.faults c.args.sink.now) c.in-Regrid.is (λ sink. cc) c.regrid.ensures.changes
 
+pub returns-in-Uniform-clause-acts : goal.returns-in-Uniform-clause-acts
+returns-in-Uniform-clause-acts g c =
+    acts_changing c.uniform.result (plain c.args.self.now) (plain c.uniform.new.self) c.args.command (Uniform c.in-Uniform.b) (g.K.Sink.taken c.args.sink.now) (g.K.Sink.faults c.args.sink.now) c.in-Uniform.is (λ sink. cc) c.uniform.ensures.changes
+
+pub returns-in-FaceSet-clause-acts : goal.returns-in-FaceSet-clause-acts
+returns-in-FaceSet-clause-acts g c =
+    let self = c.args.self.now in
+    let fits = subst (IsCommandOf (declared_of self)) c.in-FaceSet.is c.requires.fits in
+    acts_changing c.set_face.result (plain self) (plain c.set_face.new.self) c.args.command (FaceSet c.in-FaceSet.at c.in-FaceSet.value) (g.K.Sink.taken c.args.sink.now) (g.K.Sink.faults c.args.sink.now) c.in-FaceSet.is (λ sink. cc)
+    (subst (λ v. Changes c.set_face.result (plain self) (FaceSet c.in-FaceSet.at v) (plain c.set_face.new.self)) (kept c.in-FaceSet.value (2 ^ 40) fits.2 (omega arith)) c.set_face.ensures.changes)
+
 pub returns-in-Advect-clause-acts : goal.returns-in-Advect-clause-acts
 returns-in-Advect-clause-acts g c =
     acts_changing c.advect.result (plain c.args.self.now) (plain c.advect.new.self) c.args.command (Advect c.in-Advect.var c.in-Advect.speeds) (g.K.Sink.taken c.args.sink.now) (g.K.Sink.faults c.args.sink.now) c.in-Advect.is (λ sink. cc) c.advect.ensures.changes
@@ -78,6 +89,13 @@ returns-in-Total-clause-acts g c =
     let m = plain c.args.self.now in
     let w : Written = record { before = g.K.Sink.taken c.args.sink.now; after = g.K.Sink.taken c.print_total.new.sink; faults = g.K.Sink.faults c.args.sink.now; new_faults = g.K.Sink.faults c.print_total.new.sink } in
     acts_printing c.print_total.result c.written-in-Total.result m m c.args.command (Total c.in-Total.var) w c.in-Total.is refl refl refl c.print_total.ensures c.written-in-Total.ensures refl
+
+pub returns-in-NetFlux-clause-acts : goal.returns-in-NetFlux-clause-acts
+unfolding refusal
+returns-in-NetFlux-clause-acts g c =
+    let m = plain c.args.self.now in
+    let w : Written = record { before = g.K.Sink.taken c.args.sink.now; after = g.K.Sink.taken c.print_net_flux.new.sink; faults = g.K.Sink.faults c.args.sink.now; new_faults = g.K.Sink.faults c.print_net_flux.new.sink } in
+    acts_printing c.print_net_flux.result c.written-in-NetFlux.result m m c.args.command NetFlux w c.in-NetFlux.is refl refl refl c.print_net_flux.ensures c.written-in-NetFlux.ensures refl
 
 pub returns-in-PrintSize-clause-acts : goal.returns-in-PrintSize-clause-acts
 unfolding refusal mesh_of
