@@ -1,7 +1,6 @@
 -- What uniform and curl make has no net flux.
 use Rattle.std.proofs.Common.{All, List, sym, subst, inl, inr}
 use Rattle.mesh_model.specs.declared.language.script.Command.{Command}
-use Rattle.mesh_model.specs.declared.language.script.Command.TheVariants.{Curl, Uniform}
 use Rattle.mesh_model.specs.Fields.Advect.{three}
 use Rattle.mesh_model.specs.Fields.Balance.{Balanced}
 use Rattle.mesh_model.specs.Fields.Plain.{Mesh}

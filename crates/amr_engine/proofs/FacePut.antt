@@ -1,5 +1,5 @@
 -- What setting one face of a world makes of an engine's mesh.
-use Rattle.std.proofs.Common.{◌≡◌, ◌<◌, ◌≤◌, ◌+◌, ◌*◌, ◌^◌, Bool, true, false, ◌&&◌, not, ◌||◌, ◌==◌, List, ℤ, ℕ, Some, None, IsSome, refl, sym, ap, ap₂, subst, ◌∙◌, arith, ne_eqb, if◌then◌else◌}
+use Rattle.std.proofs.Common.{◌≡◌, ◌<◌, ◌^◌, Bool, true, false, ◌&&◌, not, ◌||◌, ◌==◌, List, ℤ, ℕ, None, refl, sym, ap, ap₂, subst, ◌∙◌, arith, ne_eqb, if◌then◌else◌}
 use Rattle.std.specs.Prelude.{nat_lt}
 use Rattle.std.proofs.lemmas.Bool.{ltb-true}
 use Rattle.amr_num.specs.Numbers.{Within, sum_below}
@@ -9,7 +9,6 @@ use Rattle.amr_num.specs.declared.BlockAt.{BlockAt}
 use Rattle.amr_num.specs.declared.CellAt.{CellAt}
 use Rattle.amr_num.specs.declared.FaceAt.{FaceAt}
 use Rattle.amr_num.proofs.Sizes.{sum_within}
-use Rattle.block_tree.specs.Marked.{derefine_of, refine_of}
 use Rattle.block_tree.specs.Numbered.{block_at}
 use Rattle.block_tree.specs.declared.marks.Marks.{Marks}
 use Rattle.mesh_model.specs.declared.fields.spot.Spot.TheVariants as spots
@@ -32,9 +31,9 @@ use Rattle.mesh_model.specs.Tree.Kinds.{Grid, is_leaf_block, is_leaf_face, is_sp
 use Rattle.mesh_model.specs.Tree.ValidGrid.{Valid}
 use Rattle.mesh_model.proofs.RunLemmas.RunValid.{keeps_validity}
 use Rattle.flux_conserve.specs.FaceArrays as arrays
-use Rattle.flux_conserve.specs.Jumps.{face_name, jumped}
+use Rattle.flux_conserve.specs.Jumps.{face_name}
 use Rattle.flux_conserve.proofs.Fields.{by_spot, view_jumped}
-use Rattle.rank_world.specs.Holding.{IsLeafNode, LeafFacesHold, LeavesHoldFaces}
+use Rattle.rank_world.specs.Holding.{IsLeafNode, LeavesHoldFaces}
 use Rattle.amr_engine.specs.EngineMesh.{IsLaidOut, mesh_of}
 use Rattle.amr_engine.specs.Facing.{OnlyFaces}
 use Rattle.amr_engine.specs.Setting.{IsFaceSet, IsPlace, name_at, number_of, with_face}
@@ -92,58 +91,58 @@ both_true false y h = absurd cc
 
 module _ (names : VariableNames) (w : WorldState) (outs : List ℤ) (marks : Marks) (laid : IsLaidOut names w outs marks) (valid : ValidMesh (mesh_of names w outs marks))
     (at : FaceAt) (value : ℤ) (fits : IsCommandOf (declared_in (mesh_of names w outs marks)) (FaceSet at value))
-    where
-  abbrev now : Mesh
-  now = mesh_of names w outs marks
+  where
+    abbrev now : Mesh
+    now = mesh_of names w outs marks
 
-  some_faces : 0 < w.told.counts.faces
-  unfolding mesh_of
-  some_faces = has_faces names w outs marks laid valid fits.0
-
-  abbrev set_field : FaceAt → ℤ
-  set_field f = if is_same_face f (canonical_face now.grid.shape at) then value else now.faces f
-
-  pub put_refused : (is_canonical w.told.grid.shape at && is_leaf_face w.told.grid at) ≡ false → MayStop (stopped_by (Place (spots.Face at))) now (FaceSet at value)
-  unfolding refusal mesh_of
-  put_refused none = ap (λ leaf. or_else leaf (refusals.Place (spots.Face at))) none
-
-  module _ (mid : WorldState) (raw : ℤ) (kept : raw ≡ value) (leaf_one : (is_canonical w.told.grid.shape at && is_leaf_face w.told.grid at) ≡ true) (first : OnlyFaces w mid) (is : IsFaceSet w mid at raw) where
-    pub put_within : arrays.FacesWithin false mid (2 ^ 56)
+    some_faces : 0 < w.told.counts.faces
     unfolding mesh_of
-    put_within node a leaf = record {
-      at = λ i j k low_x low_y low_z.
-          let g = w.told.grid in
-          let here : IsLeafNode g node = subst (λ (t : Told). IsLeafNode t.grid node) is.told leaf in
-          let there : IsPlace g.shape.n a i j k = subst (λ (t : Told). IsPlace t.grid.shape.n a i j k) is.told (record { x = low_x; y = low_y; z = low_z }) in
-          let view = view_within g valid.grid now.faces valid.range.faces a (block_at g node) here.leaf i j k there.x there.y there.z in
-          let was : Within (2 ^ 42) (number_of w a node i j k) = subst (Within (2 ^ 42)) (sym (((of_now names w outs marks laid valid).on_faces some_faces node here a).at i j k there.x there.y there.z)) view in
-          subst (Within (2 ^ 56)) (sym (is.each node a i j k here there)) (one_of (is_same_face (name_at g a node i j k) at) raw (number_of w a node i j k) (subst (Within (2 ^ 40)) (sym kept) fits.2) was);
-    }
+    some_faces = has_faces names w outs marks laid valid fits.0
 
-    pub put_allowed : refusal now (FaceSet at value) ≡ None
+    abbrev set_field : FaceAt → ℤ
+    set_field f = if is_same_face f (canonical_face now.grid.shape at) then value else now.faces f
+
+    pub put_refused : (is_canonical w.told.grid.shape at && is_leaf_face w.told.grid at) ≡ false → MayStop (stopped_by (Place (spots.Face at))) now (FaceSet at value)
     unfolding refusal mesh_of
-    put_allowed = ap (λ leaf. or_else leaf (refusals.Place (spots.Face at))) leaf_one
+    put_refused none = ap (λ leaf. or_else leaf (refusals.Place (spots.Face at))) none
 
-    pub put_valid : ValidMesh (set_face now at value)
-    unfolding mesh_of
-    put_valid = keeps_validity now (FaceSet at value) valid fits put_allowed
-
-    -- the world in which the copies agree
-    module _ (new : WorldState) (second : arrays.OnlyFaces false mid new) (holds : LeavesHoldFaces new (with_face now.faces at raw)) where
-      only : OnlyFaces w new
-      only = record { told = second.told ∙ first.told; others = λ u node none. second.others u node (λ a same leaf. none a same) ∙ first.others u node none }
-
-      field_is : with_face now.faces at raw ≡ set_field
+    module _ (mid : WorldState) (raw : ℤ) (kept : raw ≡ value) (leaf_one : (is_canonical w.told.grid.shape at && is_leaf_face w.told.grid at) ≡ true) (first : OnlyFaces w mid) (is : IsFaceSet w mid at raw) where
+      pub put_within : arrays.FacesWithin false mid (2 ^ 56)
       unfolding mesh_of
-      field_is = ap₂ (λ (x : FaceAt) (v : ℤ). (λ (f : FaceAt). if is_same_face f x then v else now.faces f)) (sym (own_name w.told.grid.shape at (both_true _ _ leaf_one))) kept
+      put_within node a leaf = record {
+        at = λ i j k low_x low_y low_z.
+            let g = w.told.grid in
+            let here : IsLeafNode g node = subst (λ (t : Told). IsLeafNode t.grid node) is.told leaf in
+            let there : IsPlace g.shape.n a i j k = subst (λ (t : Told). IsPlace t.grid.shape.n a i j k) is.told (record { x = low_x; y = low_y; z = low_z }) in
+            let view = view_within g valid.grid now.faces valid.range.faces a (block_at g node) here.leaf i j k there.x there.y there.z in
+            let was : Within (2 ^ 42) (number_of w a node i j k) = subst (Within (2 ^ 42)) (sym (((of_now names w outs marks laid valid).on_faces some_faces node here a).at i j k there.x there.y there.z)) view in
+            subst (Within (2 ^ 56)) (sym (is.each node a i j k here there)) (one_of (is_same_face (name_at g a node i j k) at) raw (number_of w a node i j k) (subst (Within (2 ^ 40)) (sym kept) fits.2) was);
+      }
 
-      set_holds : LeavesHoldFaces new set_field
-      set_holds = subst (LeavesHoldFaces new) field_is holds
+      pub put_allowed : refusal now (FaceSet at value) ≡ None
+      unfolding refusal mesh_of
+      put_allowed = ap (λ leaf. or_else leaf (refusals.Place (spots.Face at))) leaf_one
 
-      pub put_is : mesh_of names new outs marks ≡ set_face now at value
-      unfolding set_face
-      put_is = faces_made names w outs marks laid valid new set_field only set_holds put_valid
+      pub put_valid : ValidMesh (set_face now at value)
+      unfolding mesh_of
+      put_valid = keeps_validity now (FaceSet at value) valid fits put_allowed
 
-      pub put_laid : IsLaidOut names new outs marks
-      unfolding set_face
-      put_laid = faces_laid names w outs marks laid valid new set_field only set_holds put_valid
+      -- the world in which the copies agree
+      module _ (new : WorldState) (second : arrays.OnlyFaces false mid new) (holds : LeavesHoldFaces new (with_face now.faces at raw)) where
+        only : OnlyFaces w new
+        only = record { told = second.told ∙ first.told; others = λ u node none. second.others u node (λ a same leaf. none a same) ∙ first.others u node none }
+
+        field_is : with_face now.faces at raw ≡ set_field
+        unfolding mesh_of
+        field_is = ap₂ (λ (x : FaceAt) (v : ℤ). (λ (f : FaceAt). if is_same_face f x then v else now.faces f)) (sym (own_name w.told.grid.shape at (both_true _ _ leaf_one))) kept
+
+        set_holds : LeavesHoldFaces new set_field
+        set_holds = subst (LeavesHoldFaces new) field_is holds
+
+        pub put_is : mesh_of names new outs marks ≡ set_face now at value
+        unfolding set_face
+        put_is = faces_made names w outs marks laid valid new set_field only set_holds put_valid
+
+        pub put_laid : IsLaidOut names new outs marks
+        unfolding set_face
+        put_laid = faces_laid names w outs marks laid valid new set_field only set_holds put_valid

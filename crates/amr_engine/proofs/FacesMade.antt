@@ -5,7 +5,6 @@ use Rattle.std.specs.Option.{option_map}
 use Rattle.amr_num.specs.declared.FaceAt.{FaceAt}
 use Rattle.block_tree.specs.Marked.{derefine_of, refine_of}
 use Rattle.block_tree.specs.declared.marks.Marks.{Marks}
-use Rattle.mesh_model.specs.declared.fields.spot.RangeStop.{RangeStop}
 use Rattle.mesh_model.specs.declared.fields.spot.Spot.TheVariants as spots
 use Rattle.mesh_model.specs.declared.fields.values.Group.TheVariants as groups
 use Rattle.mesh_model.specs.declared.fields.values.Var.TheVariants.{Cell}
@@ -22,7 +21,7 @@ use Rattle.mesh_model.specs.Language.Commands.{AreThree}
 use Rattle.mesh_model.specs.Run.Stops.{refusal}
 use Rattle.mesh_model.specs.Tree.Kinds.{is_leaf_face}
 use Rattle.mesh_model.proofs.RunLemmas.RunValid.{keeps_validity}
-use Rattle.rank_world.specs.Holding.{IsLeafNode, IsOfMesh, LeavesHold, LeavesHoldFaces}
+use Rattle.rank_world.specs.Holding.{IsLeafNode, IsOfMesh, LeavesHoldFaces}
 use Rattle.rank_world.specs.declared.faces.FaceAbove.{FaceAbove}
 use Rattle.amr_engine.specs.EngineMesh.{IsLaidOut, mesh_of}
 use Rattle.amr_engine.specs.Facing.{OnlyFaces, face_told, walked_above}

@@ -1,5 +1,5 @@
 -- Commands that make a face variable without net flux.
-use Rattle.std.specs.Prelude.{◌≡◌, ◌⊎◌, ℕ, ℤ, List}
+use Rattle.std.specs.Prelude.{◌≡◌, ◌⊎◌, ℤ, List}
 use Rattle.mesh_model.specs.declared.language.script.Command.{Command}
 use Rattle.mesh_model.specs.declared.language.script.Command.TheVariants.{Curl, Uniform}
 use Rattle.mesh_model.specs.Fields.Balance.{Balanced}

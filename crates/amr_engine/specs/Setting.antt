@@ -10,7 +10,7 @@ use Rattle.mesh_model.specs.Fields.Ranks.{WorldState}
 use Rattle.mesh_model.specs.Geometry.Canonical.{canonical_on}
 use Rattle.mesh_model.specs.Geometry.Coordinates.{face_of, is_same_face, step}
 use Rattle.mesh_model.specs.Geometry.Places.{in_block, longer_on}
-use Rattle.mesh_model.specs.Tree.Kinds.{Grid, block_of, is_leaf, is_leaf_face}
+use Rattle.mesh_model.specs.Tree.Kinds.{Grid, block_of, is_leaf}
 use Rattle.block_tree.specs.Numbered.{block_at}
 use Rattle.block_tree.specs.SideFaces.{side_half}
 use Rattle.rank_world.specs.Holding.{IsLeafNode, face_array}

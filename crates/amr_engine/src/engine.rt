@@ -3,21 +3,23 @@
 use crate::advection::step;
 use crate::cause::{Cause, Stop};
 use crate::facing::set_uniform;
-use crate::netting::net_fluxes;
-use crate::setting::{NoFace, set_face};
 use crate::filling::fill_leaves;
 use crate::marking::{Where, mark_where};
+use crate::netting::net_fluxes;
 use crate::region::{CellBox, Fill, Region};
+use crate::setting::{NoFace, set_face};
 use crate::totals::total;
 use amr_num::{BlockAt, FaceAt, OutOfMemory};
-use amr_report::{print_guards, print_mesh, print_netflux, print_size, print_total, print_tree, print_var};
+use amr_report::{
+    print_guards, print_mesh, print_netflux, print_size, print_total, print_tree, print_var,
+};
 use block_store::Layout;
 use block_tree::Marks;
 use edge_average::agree;
 use guard_fill::{fill, restrict_all};
-use mesh_model::{Group, Spot};
 use mesh_model::language::names::Names;
 use mesh_model::language::script::{Command, Declared, Line};
+use mesh_model::{Group, Spot};
 use outside_io::Failed;
 use outside_io::disk::Disk;
 use outside_io::sink::Sink;

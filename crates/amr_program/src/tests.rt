@@ -45,7 +45,14 @@ fn run(
     let script = Vec::from_slice(alloc, script)?;
     let mut source = MemSource::new(script, outside.read_step, failing_read);
     let mut sink = MemSink::new(alloc, 4096, outside.write_step, failing_write)?;
-    let mut disk = MemDisk::new(alloc, Vec::new(alloc), Vec::new(alloc), 0, Vec::new(alloc), None)?;
+    let mut disk = MemDisk::new(
+        alloc,
+        Vec::new(alloc),
+        Vec::new(alloc),
+        0,
+        Vec::new(alloc),
+        None,
+    )?;
     let status = amr(alloc, words, &mut source, &mut sink, &mut disk);
     Ok((status, sink))
 }
@@ -138,7 +145,7 @@ const REFUSED: [(&[u8], &[u8]); 4] = [
         b"domain 1 1 1\nfill all 2\nend\n",
         b"error: script line 2: wrong number of words\n",
     ),
-    (b"domain 1 2 1\nfacevar f\nend\n", b"error: not built\n"),
+    (b"domain 1 2 1\nedgevar f\nend\n", b"error: not built\n"),
     (
         b"domain 1 1 1\ncellvar u\ncheckpoint\nend\n",
         b"error: not built\n",
@@ -362,6 +369,67 @@ const GUARDS: &[u8] =
 #[test]
 fn contents_go_with_the_mesh(rt: HostRuntime) -> Result<(), Fail> {
     for (script, answer, printed) in CARRIED {
+        let (status, sink) = run(rt.alloc(), &[], script, QUIET)?;
+        assert_eq!(rt; status, answer);
+        assert_eq!(rt; sink.taken(), printed);
+    }
+    Ok(())
+}
+
+/// Scripts with a face variable, how they end, and what they print.
+const FACED: [(&[u8], Status, &[u8]); 5] = [
+    // A uniform flux has no net flux, nor has what the inner rule makes of it; one face that is set has, in the two cells
+    // beside it. A face with finer faces in it is no leaf face.
+    (
+        b"domain 1 1 1\ncells 4 1\nlevels 0 1\nfacevar b\nuniform 3 0 -2\nnetflux\nmark refine 0 0 0 0\n\
+regrid\nnetflux\nfaceset x 1 1 0 0 5\nnetflux\nfaceset x 0 1 0 0 5\nend\n",
+        Status::Stopped,
+        b"netflux b cells 0\nnetflux b cells 0\nnetflux b cells 2\nerror: line 12: place face x 0 1 0 0\n",
+    ),
+    // A face of level 0 has four times the area of a finest face.
+    (
+        b"domain 1 1 1\ncells 4 1\nlevels 0 1\nfacevar b\nuniform 1099511627776 0 0\nend\n",
+        Status::Stopped,
+        b"error: line 5: range b face x 0 0 0 0 4398046511104\n",
+    ),
+    // The face of a finer leaf at a jump of level is part of the coarse face beside it.
+    (
+        b"domain 2 1 1\ncells 4 1\nlevels 0 1\nfacevar b\nuniform 4 8 -4\nmark refine 0 0 0 0\nregrid\n\
+netflux\nfaceset x 1 8 2 3 9\nnetflux\nfaceset x 0 4 1 1 9\nend\n",
+        Status::Stopped,
+        b"netflux b cells 0\nnetflux b cells 2\nerror: line 11: place face x 0 4 1 1\n",
+    ),
+    (
+        MERGED_FACES,
+        Status::Done,
+        b"netflux b cells 2\nnetflux b cells 2\nmesh nodes 1 leaves 1\n",
+    ),
+    // Three of the four numbers are at the limit, and their sum is that of the face where the domain begins again.
+    (
+        SUMMED_FACES,
+        Status::Stopped,
+        b"error: line 19: range b face x 0 0 0 0 3298534883329\n",
+    ),
+];
+
+/// One of four finer faces is set, and eight leaves are merged.
+const MERGED_FACES: &[u8] =
+    b"domain 1 1 1\ncells 4 1\nlevels 0 1\nfacevar b\nuniform 4 0 0\nmark refine 0 0 0 0\nregrid\n\
+faceset x 1 2 0 0 9\nnetflux\nmark derefine 1 0 0 0\nmark derefine 1 1 0 0\nmark derefine 1 0 1 0\n\
+mark derefine 1 1 1 0\nmark derefine 1 0 0 1\nmark derefine 1 1 0 1\nmark derefine 1 0 1 1\n\
+mark derefine 1 1 1 1\nregrid\nnetflux\nprint size\nend\n";
+
+/// Eight leaves are merged with a sum that is out of range.
+const SUMMED_FACES: &[u8] =
+    b"domain 1 1 1\ncells 4 1\nlevels 0 1\nfacevar b\nmark refine 0 0 0 0\nregrid\n\
+faceset x 1 0 0 0 1099511627776\nfaceset x 1 0 1 0 1099511627776\nfaceset x 1 0 0 1 1099511627776\n\
+faceset x 1 0 1 1 1\nmark derefine 1 0 0 0\nmark derefine 1 1 0 0\nmark derefine 1 0 1 0\n\
+mark derefine 1 1 1 0\nmark derefine 1 0 0 1\nmark derefine 1 1 0 1\nmark derefine 1 0 1 1\n\
+mark derefine 1 1 1 1\nregrid\nend\n";
+
+#[test]
+fn faces_go_with_the_mesh(rt: HostRuntime) -> Result<(), Fail> {
+    for (script, answer, printed) in FACED {
         let (status, sink) = run(rt.alloc(), &[], script, QUIET)?;
         assert_eq!(rt; status, answer);
         assert_eq!(rt; sink.taken(), printed);

@@ -1,4 +1,4 @@
-use Rattle.std.proofs.Common.{◌≡◌, List, ℕ, ℤ, pos, option_copied, ap, sym, subst, ◌∙◌}
+use Rattle.std.proofs.Common.{List, ℕ, ℤ, option_copied, ap, sym, subst, ◌∙◌}
 use Rattle.mesh_model.specs.Run.Texts.{netflux_line, netflux_text}
 use Rattle.mesh_model.specs.Fields.Totals.{leaf_sum}
 use Rattle.amr_engine.specs.Netting.{counted_cell}

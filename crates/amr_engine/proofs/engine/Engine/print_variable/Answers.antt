@@ -1,4 +1,4 @@
-use Rattle.std.proofs.Common.{◌≡◌, ◌<◌, IsSome, Some, length, option_copied, ap, sym, subst, ◌∙◌}
+use Rattle.std.proofs.Common.{◌≡◌, ◌<◌, IsSome, length, option_copied, ap, sym, subst, ◌∙◌}
 use Rattle.mesh_model.specs.Language.Commands.{IsGroup}
 use Rattle.mesh_model.specs.Fields.ArrayPlaces.{extents_of, number_of}
 use Rattle.mesh_model.specs.Fields.Arrays.{array_in}

@@ -1,4 +1,4 @@
-use Rattle.std.proofs.Common.{◌≡◌, ◌<◌, ◌^◌, ℤ, arith, refl, sym, ap, subst, to_z, of_z, w64}
+use Rattle.std.proofs.Common.{◌<◌, ◌^◌, arith, refl, sym, ap, subst, to_z, of_z, w64}
 use Rattle.amr_num.proofs.Machine.{kept}
 use Rattle.mesh_model.specs.Fields.Ranks.{Told, WorldState}
 use Rattle.mesh_model.specs.Fields.Valid.{ValidMesh}

@@ -1,7 +1,6 @@
-use Rattle.std.proofs.Common.{◌≡◌, arith, sym, ap, subst}
-use Rattle.mesh_model.specs.declared.geometry.Shape.{Shape}
+use Rattle.std.proofs.Common.{arith, sym, ap, subst}
 use Rattle.mesh_model.specs.declared.language.script.Command.TheVariants as commands
-use Rattle.mesh_model.specs.Fields.Ranks.{Told, WorldState}
+use Rattle.mesh_model.specs.Fields.Ranks.{WorldState}
 use Rattle.amr_engine.specs.EngineMesh.{mesh_of}
 use Rattle.amr_engine.specs.Stopping.{MayStop, stopped_by}
 use Rattle.amr_engine.proofs.FacesMade.{uniform_allowed, uniform_is, uniform_kept, uniform_refused}
