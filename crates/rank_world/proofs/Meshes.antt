@@ -5,11 +5,12 @@ use Rattle.std.proofs.lemmas.Bool.{cases_Bool, cases_lt, cases_order, le-ltb, lt
 use Rattle.std.proofs.lemmas.List.{length-replicate}
 use Rattle.amr_num.specs.declared.Axis.{Axis}
 use Rattle.amr_num.specs.declared.CellAt.{CellAt}
+use Rattle.amr_num.specs.declared.EdgeAt.{EdgeAt}
 use Rattle.amr_num.specs.declared.FaceAt.{FaceAt}
 use Rattle.amr_num.specs.Numbers.{Within, number_range}
-use Rattle.mesh_model.specs.declared.fields.values.Var.TheVariants.{Cell, Face}
-use Rattle.mesh_model.specs.Fields.ArrayPlaces.{HoldsFaces, HoldsViews}
-use Rattle.mesh_model.specs.Fields.FinePlaces.{faces_in}
+use Rattle.mesh_model.specs.declared.fields.values.Var.TheVariants.{Cell, Edge, Face}
+use Rattle.mesh_model.specs.Fields.ArrayPlaces.{HoldsEdges, HoldsFaces, HoldsViews}
+use Rattle.mesh_model.specs.Fields.FinePlaces.{edges_in, faces_in}
 use Rattle.mesh_model.specs.Fields.Octants.{cells_of}
 use Rattle.mesh_model.specs.Fields.Plain.{Mesh}
 use Rattle.mesh_model.specs.Fields.Ranks.{Told, WorldState}
@@ -27,7 +28,7 @@ use Rattle.mesh_model.proofs.TreeLemmas.Tiling.{leaf_says}
 use Rattle.block_tree.specs.Numbered.{IsNode, block_at}
 use Rattle.block_tree.proofs.Leaves.{leaf_node}
 use Rattle.block_tree.proofs.Members.{at_in, one_place}
-use Rattle.rank_world.specs.Holding.{IsLeafNode, IsOfMesh, IsOfValidMesh, LeavesHold, LeavesHoldFaces, LeavesInRange, OnlyCells, cell_array, face_array, numbers_of}
+use Rattle.rank_world.specs.Holding.{IsLeafNode, IsOfMesh, IsOfValidMesh, LeavesHold, LeavesHoldEdges, LeavesHoldFaces, LeavesInRange, OnlyCells, cell_array, edge_array, face_array, numbers_of}
 
 module _ (w : WorldState) (valid : Valid w.told.grid) (order : Sorted w.told.grid.leaves) where
   abbrev IsLeafCell : CellAt → Type 0
@@ -129,7 +130,7 @@ module _ (w : WorldState) (valid : Valid w.told.grid) (order : Sorted w.told.gri
           range = record { cells = all; outs = λ v. omega arith; faces = λ f. omega arith; edges = λ e. omega arith };
           marks = record { refine = λ b h. cc; derefine = λ b h. cc };
         };
-        world = record { grid = refl; cells = sym count; faces = (λ h. refl, λ h. faces); edges = (λ h. refl, λ h. edges); contents = leaves_hold; on_faces = λ h. absurd (omega (arith, faces, h)) };
+        world = record { grid = refl; cells = sym count; faces = (λ h. refl, λ h. faces); edges = (λ h. refl, λ h. edges); contents = leaves_hold; on_faces = λ h. absurd (omega (arith, faces, h)); on_edges = λ h. absurd (omega (arith, edges, h)) };
       }
     where
       each : (v : ℕ) (c : CellAt) → is_leaf w.told.grid c ≡ false → content v c ≡ pos 0
@@ -146,14 +147,15 @@ module _ (w : WorldState) (valid : Valid w.told.grid) (order : Sorted w.told.gri
 
 -- a world is that of a mesh still where its leaves hold what they held
 pub mesh_kept : (a b : WorldState) (m : Mesh) → b.told ≡ a.told → ((v : ℕ) → v < a.told.counts.cells → LeavesHold a v (m.cells v) → LeavesHold b v (m.cells v)) → (LeavesHoldFaces a m.faces → LeavesHoldFaces b m.faces) →
-    IsOfMesh a m → IsOfMesh b m
-mesh_kept a b m told cells faces of = record {
+    (LeavesHoldEdges false a m.edges → LeavesHoldEdges false b m.edges) → IsOfMesh a m → IsOfMesh b m
+mesh_kept a b m told cells faces edges of = record {
   grid = ap (λ (t : Told). t.grid) told ∙ of.grid;
   cells = ap (λ (t : Told). t.counts.cells) told ∙ of.cells;
   faces = subst (λ (t : Told). (t.counts.faces ≡ 0) ↔ (m.names.face ≡ None)) (sym told) of.faces;
   edges = subst (λ (t : Told). (t.counts.edges ≡ 0) ↔ (m.names.edge ≡ None)) (sym told) of.edges;
   contents = λ v h. let was = subst (λ (t : Told). v < t.counts.cells) told h in cells v was (of.contents v was);
   on_faces = λ h. faces (of.on_faces (subst (λ (t : Told). 0 < t.counts.faces) told h));
+  on_edges = λ h. edges (of.on_edges (subst (λ (t : Told). 0 < t.counts.edges) told h));
 }
 
 -- leaves whose arrays of faces are what they were hold the same field on faces
@@ -163,10 +165,18 @@ faces_same a b field told same holds node leaf x =
     subst (λ (t : Told). HoldsFaces t.grid field x (block_at t.grid node) (faces_in t.grid x (face_array b x node))) (sym told)
     (subst (λ xs. HoldsFaces a.told.grid field x (block_at a.told.grid node) (faces_in a.told.grid x xs)) (sym (same x node was)) (holds node was x))
 
+-- and of edges
+pub edges_same : (a b : WorldState) (field : EdgeAt → ℤ) → b.told ≡ a.told → ((x : Axis) (node : ℕ) → IsLeafNode a.told.grid node → edge_array false b x node ≡ edge_array false a x node) → LeavesHoldEdges false a field → LeavesHoldEdges false b field
+edges_same a b field told same holds node leaf x =
+    let was : IsLeafNode a.told.grid node = subst (λ (t : Told). IsLeafNode t.grid node) told leaf in
+    subst (λ (t : Told). HoldsEdges t.grid field x (block_at t.grid node) (edges_in t.grid x (edge_array false b x node))) (sym told)
+    (subst (λ xs. HoldsEdges a.told.grid field x (block_at a.told.grid node) (edges_in a.told.grid x xs)) (sym (same x node was)) (holds node was x))
+
 -- so it is where the numbers of one cell variable change
 pub cells_keep_mesh : (a b : WorldState) (v : ℕ) (m : Mesh) → OnlyCells a b v → ((content : CellAt → ℤ) → LeavesHold a v content → LeavesHold b v content) → IsOfMesh a m → IsOfMesh b m
 cells_keep_mesh a b v m only keeps of =
-    mesh_kept a b m only.told contents (faces_same a b m.faces only.told (λ x node leaf. only.others (Face x) node (λ is. absurd cc))) of
+    mesh_kept a b m only.told contents (faces_same a b m.faces only.told (λ x node leaf. only.others (Face x) node (λ is. absurd cc)))
+    (edges_same a b m.edges only.told (λ x node leaf. only.others (Edge x) node (λ is. absurd cc))) of
   where
     other : (u : ℕ) → (u ≡ v → ⊥) → LeavesHold a u (m.cells u) → LeavesHold b u (m.cells u)
     other u apart holds node leaf =

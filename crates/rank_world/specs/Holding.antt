@@ -5,17 +5,18 @@ use Rattle.amr_num.specs.declared.Axis.TheVariants.{X, Y, Z}
 use Rattle.amr_num.specs.declared.BlockAt.{BlockAt}
 use Rattle.amr_num.specs.declared.CellAt.{CellAt}
 use Rattle.amr_num.specs.declared.FaceAt.{FaceAt}
+use Rattle.amr_num.specs.declared.EdgeAt.{EdgeAt}
 use Rattle.amr_num.specs.Numbers.{Within, number_range}
 use Rattle.mesh_model.specs.declared.fields.values.Var.{Var}
-use Rattle.mesh_model.specs.declared.fields.values.Var.TheVariants.{Cell, Face, FaceWork}
+use Rattle.mesh_model.specs.declared.fields.values.Var.TheVariants.{Cell, Edge, EdgeWork, Face, FaceWork}
 use Rattle.mesh_model.specs.Fields.Arrays.{array_in}
 use Rattle.mesh_model.specs.Fields.Octants.{cells_of}
-use Rattle.mesh_model.specs.Fields.ArrayPlaces.{HoldsFaces, HoldsViews}
-use Rattle.mesh_model.specs.Fields.FinePlaces.{faces_in}
+use Rattle.mesh_model.specs.Fields.ArrayPlaces.{HoldsEdges, HoldsFaces, HoldsViews}
+use Rattle.mesh_model.specs.Fields.FinePlaces.{edges_in, faces_in}
 use Rattle.mesh_model.specs.Geometry.Canonical.{canonical_on}
-use Rattle.mesh_model.specs.Geometry.Coordinates.{face_of}
-use Rattle.mesh_model.specs.Geometry.Places.{in_block, longer_on}
-use Rattle.mesh_model.specs.Tree.Kinds.{Grid, is_leaf_block, is_leaf_face}
+use Rattle.mesh_model.specs.Geometry.Coordinates.{edge_of, face_of, next}
+use Rattle.mesh_model.specs.Geometry.Places.{in_block, longer_across, longer_on}
+use Rattle.mesh_model.specs.Tree.Kinds.{Grid, is_leaf_block, is_leaf_edge, is_leaf_face}
 use Rattle.mesh_model.specs.Fields.Plain.{Mesh}
 use Rattle.mesh_model.specs.Fields.Valid.{ValidMesh}
 use Rattle.mesh_model.specs.Fields.Ranks.{WorldState, rank_at}
@@ -54,6 +55,10 @@ NodeHoldsFaces w field node = (a : Axis) → HoldsFaces w.told.grid field a (blo
 abbrev pub LeavesHoldFaces : WorldState → (FaceAt → ℤ) → Type 0
 LeavesHoldFaces w field = (node : ℕ) → IsLeafNode w.told.grid node → NodeHoldsFaces w field node
 
+-- each node does
+abbrev pub NodesHoldFaces : WorldState → (FaceAt → ℤ) → Type 0
+NodesHoldFaces w field = (node : ℕ) → IsNode w.told.grid node → NodeHoldsFaces w field node
+
 -- a block has a field on the leaf faces among its faces normal to an axis; on its other faces, those with finer leaves beside them, it may have anything
 pub record HoldsLeafFaces (g : Grid) (field : FaceAt → ℤ) (a : Axis) (b : BlockAt) (numbers : ℕ → ℕ → ℕ → ℤ) : Type 0 where
   pub at : (i j k : ℕ) → i < longer_on a X g.shape.n → j < longer_on a Y g.shape.n → k < longer_on a Z g.shape.n →
@@ -64,6 +69,39 @@ pub record HoldsLeafFaces (g : Grid) (field : FaceAt → ℤ) (a : Axis) (b : Bl
 abbrev pub LeafFacesHold : WorldState → (FaceAt → ℤ) → Type 0
 LeafFacesHold w field = (node : ℕ) (a : Axis) → IsLeafNode w.told.grid node →
     HoldsLeafFaces w.told.grid field a (block_at w.told.grid node) (faces_in w.told.grid a (face_array w a node))
+
+-- ---- edges
+
+-- the arrays of edges along an axis: the work edges, or those of the edge variable; such an array of a node
+abbrev pub edge_var : Bool → Axis → Var
+edge_var true a = EdgeWork a
+edge_var false a = Edge a
+
+abbrev pub edge_array : Bool → WorldState → Axis → ℕ → List ℤ
+edge_array work w a node = array_in (rank_at w 0).own.values (edge_var work a) node
+
+-- a node holds the views of a field on edges, on its edges along each axis, those on its sides among them; each leaf does; each node does
+abbrev pub NodeHoldsEdges : Bool → WorldState → (EdgeAt → ℤ) → ℕ → Type 0
+NodeHoldsEdges work w field node = (a : Axis) → HoldsEdges w.told.grid field a (block_at w.told.grid node) (edges_in w.told.grid a (edge_array work w a node))
+
+abbrev pub LeavesHoldEdges : Bool → WorldState → (EdgeAt → ℤ) → Type 0
+LeavesHoldEdges work w field = (node : ℕ) → IsLeafNode w.told.grid node → NodeHoldsEdges work w field node
+
+abbrev pub NodesHoldEdges : WorldState → (EdgeAt → ℤ) → Type 0
+NodesHoldEdges w field = (node : ℕ) → IsNode w.told.grid node → NodeHoldsEdges false w field node
+
+-- a block has a field on the leaf edges among its edges along an axis; on its other edges, those with finer leaves round them, it may have anything
+pub record HoldsLeafEdges (g : Grid) (field : EdgeAt → ℤ) (a : Axis) (b : BlockAt) (numbers : ℕ → ℕ → ℕ → ℤ) : Type 0 where
+  pub at : (i j k : ℕ) → i < longer_across a X g.shape.n → j < longer_across a Y g.shape.n → k < longer_across a Z g.shape.n →
+      let e = edge_of a (canonical_on g.shape (next a) (canonical_on g.shape (next (next a)) (in_block g.shape.n b i j k))) in
+      is_leaf_edge g e ≡ true → numbers (g.shape.g + i) (g.shape.g + j) (g.shape.g + k) ≡ field e
+
+-- each leaf does, so that every copy of a leaf edge's number is the field's
+abbrev pub LeafEdgesHold : Bool → WorldState → (EdgeAt → ℤ) → Type 0
+LeafEdgesHold work w field = (node : ℕ) (a : Axis) → IsLeafNode w.told.grid node →
+    HoldsLeafEdges w.told.grid field a (block_at w.told.grid node) (edges_in w.told.grid a (edge_array work w a node))
+
+-- ---- faces in either array
 
 -- the arrays of faces normal to an axis: the work faces, or those of the face variable
 abbrev pub face_var : Bool → Axis → Var
@@ -86,8 +124,8 @@ pub record LeafInRange (w : WorldState) (v node : ℕ) : Type 0 where
 abbrev pub LeavesInRange : WorldState → Type 0
 LeavesInRange w = (v node : ℕ) → v < w.told.counts.cells → IsLeafNode w.told.grid node → LeafInRange w v node
 
--- the world is that of a mesh: its tree and its variables, and each leaf holds the contents of its cells, and on each of its faces what
--- the face variable has there
+-- the world is that of a mesh: its tree and its variables, and each leaf holds the contents of its cells, and on each of its faces and edges what
+-- the face variable and the edge variable have there
 pub record IsOfMesh (w : WorldState) (m : Mesh) : Type 0 where
   pub grid : w.told.grid ≡ m.grid
   pub cells : w.told.counts.cells ≡ length m.names.cells
@@ -95,6 +133,7 @@ pub record IsOfMesh (w : WorldState) (m : Mesh) : Type 0 where
   pub edges : (w.told.counts.edges ≡ 0) ↔ (m.names.edge ≡ None)
   pub contents : (v : ℕ) → v < w.told.counts.cells → LeavesHold w v (m.cells v)
   pub on_faces : 0 < w.told.counts.faces → LeavesHoldFaces w m.faces
+  pub on_edges : 0 < w.told.counts.edges → LeavesHoldEdges false w m.edges
 
 -- the world is that of a valid mesh
 pub record IsOfValidMesh (w : WorldState) : Type 0 where

@@ -214,3 +214,10 @@ may_all_again n g old a b may told fit = record {
   near = subst (λ (t : Told). AreNear old.told.grid t.grid) (sym told) may.near;
   mesh = may.mesh;
 }
+
+-- a node's faces that were given numbers which hold views
+pub one_moved : (old new : WorldState) (field : FaceAt → ℤ) (node : ℕ) (a : Axis) (b : BlockAt) (ys : List ℤ) → block_at new.told.grid node ≡ b → face_array new a node ≡ ys →
+    HoldsFaces old.told.grid field a b (faces_in old.told.grid a ys) → AxisMoved old new field node a
+one_moved old new field node a b ys block numbers holds =
+    subst (λ d. HoldsFaces old.told.grid field a d (faces_in old.told.grid a (face_array new a node))) (sym block)
+    (subst (λ zs. HoldsFaces old.told.grid field a b (faces_in old.told.grid a zs)) (sym numbers) holds)

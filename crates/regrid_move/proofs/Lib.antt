@@ -5,6 +5,4 @@ pub mod Regridded
 pub mod Steps
 pub mod Stops
 pub mod Puts
-pub mod Keeps
-pub mod SideLeaves
 pub mod Uniform

@@ -2,4 +2,3 @@ pub mod Near
 pub mod Regrids
 pub mod Tried
 pub mod FaceMoves
-pub mod FaceKeeps

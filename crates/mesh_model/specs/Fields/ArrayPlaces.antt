@@ -169,11 +169,15 @@ HoldsFaces g field a b numbers = HoldsFaceField g (face_view g field) a b number
 pub record HoldsFaceGuards (g : Grid) (field : FaceAt → ℤ) (a : Axis) (b : BlockAt) (numbers : ℕ → ℕ → ℕ → ℤ) : Type 0 where
   pub at : (i j k : ℕ) → let e = face_extents g.shape.n g.shape.g a in i < e.x → j < e.y → k < e.z → numbers i j k ≡ face_view g field (face_there g.shape a b i j k)
 
--- and of a field on edges, on its edges along an axis
-pub record HoldsEdges (g : Grid) (field : EdgeAt → ℤ) (a : Axis) (b : BlockAt) (numbers : ℕ → ℕ → ℕ → ℤ) : Type 0 where
+-- a field on edges, on the edges of the block along an axis, those on its sides among them, by their canonical names
+pub record HoldsEdgeField (g : Grid) (field : EdgeAt → ℤ) (a : Axis) (b : BlockAt) (numbers : ℕ → ℕ → ℕ → ℤ) : Type 0 where
   pub at : (i j k : ℕ) → i < longer_across a X g.shape.n → j < longer_across a Y g.shape.n → k < longer_across a Z g.shape.n →
       numbers (g.shape.g + i) (g.shape.g + j) (g.shape.g + k)
-      ≡ edge_view g field (edge_of a (canonical_on g.shape (next a) (canonical_on g.shape (next (next a)) (in_block g.shape.n b i j k))))
+      ≡ field (edge_of a (canonical_on g.shape (next a) (canonical_on g.shape (next (next a)) (in_block g.shape.n b i j k))))
+
+-- the views of such a field
+abbrev pub HoldsEdges : Grid → (EdgeAt → ℤ) → Axis → BlockAt → (ℕ → ℕ → ℕ → ℤ) → Type 0
+HoldsEdges g field a b numbers = HoldsEdgeField g (edge_view g field) a b numbers
 
 pub record HoldsEdgeGuards (g : Grid) (field : EdgeAt → ℤ) (a : Axis) (b : BlockAt) (numbers : ℕ → ℕ → ℕ → ℤ) : Type 0 where
   pub at : (i j k : ℕ) → let e = edge_extents g.shape.n g.shape.g a in i < e.x → j < e.y → k < e.z → numbers i j k ≡ edge_view g field (edge_there g.shape a b i j k)

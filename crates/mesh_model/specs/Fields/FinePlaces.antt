@@ -5,18 +5,19 @@ use Rattle.amr_num.specs.declared.Axis.TheVariants.{X, Y, Z}
 use Rattle.amr_num.specs.declared.BlockAt.{BlockAt}
 use Rattle.amr_num.specs.declared.CellAt.{CellAt}
 use Rattle.amr_num.specs.declared.FaceAt.{FaceAt}
+use Rattle.amr_num.specs.declared.EdgeAt.{EdgeAt}
 use Rattle.amr_num.specs.Numbers.{Within, sum_below}
 use Rattle.mesh_model.specs.declared.fields.values.Var.{Var}
 use Rattle.mesh_model.specs.declared.fields.values.Var.TheVariants.{Cell, Face, Edge, CellWork, FaceWork, EdgeWork}
 use Rattle.mesh_model.specs.Geometry.Blocks.{child_block}
 use Rattle.mesh_model.specs.Geometry.Canonical.{canonical_on}
-use Rattle.mesh_model.specs.Geometry.Coordinates.{face_of, quarter, step}
+use Rattle.mesh_model.specs.Geometry.Coordinates.{edge_of, face_of, next, quarter, step}
 use Rattle.mesh_model.specs.Geometry.Places.{in_block, longer_across, longer_on}
 use Rattle.mesh_model.specs.Tree.Kinds.{Grid}
 use Rattle.mesh_model.specs.Tree.ValidGrid.{Valid}
-use Rattle.mesh_model.specs.Fields.ArrayPlaces.{Box, Extents, HoldsFaces, IsWritten, edge_extents, extents_of, face_extents, number_at}
+use Rattle.mesh_model.specs.Fields.ArrayPlaces.{Box, Extents, HoldsEdges, HoldsFaces, IsWritten, edge_extents, extents_of, face_extents, number_at}
 use Rattle.mesh_model.specs.Fields.Octants.{half_at}
-use Rattle.mesh_model.specs.Fields.Views.{face_view}
+use Rattle.mesh_model.specs.Fields.Views.{edge_view, face_view}
 
 -- ---- places
 
@@ -113,3 +114,28 @@ FaceOctantsStay = (g : Grid) (field : FaceAt → ℤ) (a : Axis) (b : BlockAt) (
 abbrev pub FaceOctantsMakeBlocks : Type 0
 FaceOctantsMakeBlocks = (g : Grid) (field : FaceAt → ℤ) (a : Axis) (b : BlockAt) (numbers : ℕ → ℕ → ℕ → ℤ) → Valid g →
     ((q : ℕ) → q < 8 → FaceOctantHolds g field a b q numbers) → HoldsFaces g field a b numbers
+
+-- ---- and of a field on edges
+
+-- the octant q of the block holds the views of a field on edges
+pub record EdgeOctantHolds (g : Grid) (field : EdgeAt → ℤ) (a : Axis) (b : BlockAt) (q : ℕ) (numbers : ℕ → ℕ → ℕ → ℤ) : Type 0 where
+  pub at : (i j k : ℕ) → i < longer_across a X (g.shape.n / 2) → j < longer_across a Y (g.shape.n / 2) → k < longer_across a Z (g.shape.n / 2) →
+      numbers (g.shape.g + half_at g.shape.n q + i) (g.shape.g + half_at g.shape.n (q / 2) + j) (g.shape.g + half_at g.shape.n (q / 4) + k)
+      ≡ edge_view g field (edge_of a (canonical_on g.shape (next a) (canonical_on g.shape (next (next a))
+          (in_block g.shape.n b (half_at g.shape.n q + i) (half_at g.shape.n (q / 2) + j) (half_at g.shape.n (q / 4) + k)))))
+
+-- an octant that was set to the sums of a child that holds views holds views
+abbrev pub EdgeOctantsAreSummed : Type 0
+EdgeOctantsAreSummed = (g : Grid) (field : EdgeAt → ℤ) (a : Axis) (b : BlockAt) (q : ℕ) (child old new : List ℤ) → Valid g →
+    IsSummed g.shape.n g.shape.g (Edge a) q child old new → HoldsEdges g field a (child_block b q) (edges_in g a child) → EdgeOctantHolds g field a b q (edges_in g a new)
+
+-- and the other octants that held views hold them still, those with edges in common among them
+abbrev pub EdgeOctantsStay : Type 0
+EdgeOctantsStay = (g : Grid) (field : EdgeAt → ℤ) (a : Axis) (b : BlockAt) (q p : ℕ) (child old new : List ℤ) → Valid g → q < 8 → p < 8 → p ≢ q →
+    IsSummed g.shape.n g.shape.g (Edge a) q child old new → HoldsEdges g field a (child_block b q) (edges_in g a child) →
+    EdgeOctantHolds g field a b p (edges_in g a old) → EdgeOctantHolds g field a b p (edges_in g a new)
+
+-- a block whose eight octants hold views holds views
+abbrev pub EdgeOctantsMakeBlocks : Type 0
+EdgeOctantsMakeBlocks = (g : Grid) (field : EdgeAt → ℤ) (a : Axis) (b : BlockAt) (numbers : ℕ → ℕ → ℕ → ℤ) → Valid g →
+    ((q : ℕ) → q < 8 → EdgeOctantHolds g field a b q numbers) → HoldsEdges g field a b numbers

@@ -2,13 +2,13 @@ use Rattle.std.proofs.Common.{◌≡◌}
 use Rattle.mesh_model.specs.Fields.FaceSplits.{by_axis}
 use Rattle.mesh_model.proofs.FieldLemmas.Beside.{three}
 use Rattle.rank_world.specs.Holding.{face_array}
-use Rattle.regrid_move.specs.FaceKeeps.{AreKeptSides}
-use Rattle.regrid_move.proofs.Keeps.{held, sources}
-use Rattle.regrid_move.proofs.splitting.split_into.Goals as goal
+use Rattle.leaf_split.specs.FaceKeeps.{AreKeptSides}
+use Rattle.leaf_split.proofs.Keeps.{held, sources}
+use Rattle.leaf_split.proofs.faces.child_faces.Goals as goal
 
 pub split_faces-requires-clause-small : goal.split_faces-requires-clause-small
 split_faces-requires-clause-small g c =
-    let w = c.args.old.now in
+    let w = c.args.world.now in
     let x = c.keep_sides-x in
     let y = c.keep_sides-y in
     let z = c.keep_sides-z in
@@ -21,7 +21,7 @@ split_faces-requires-clause-small g c =
 
 pub returns-clause-views : goal.returns-clause-views
 returns-clause-views g c =
-    let w = c.args.old.now in
+    let w = c.args.world.now in
     let x = c.keep_sides-x in
     let y = c.keep_sides-y in
     let z = c.keep_sides-z in

@@ -22,7 +22,6 @@ use Rattle.mesh_model.specs.Fields.Views.{cross, face_view, is_even}
 use Rattle.mesh_model.proofs.FieldLemmas.CellKinds.{kinds_of_tiles, wide_of}
 use Rattle.mesh_model.proofs.FieldLemmas.LeafFaces.{Either, Seen, seen_sub, view_of_leaf_face}
 use Rattle.mesh_model.proofs.GeometryLemmas.ShapeLimits.{cells_some}
-use Rattle.regrid_move.specs.FaceMoves.{AxisMoved}
 use Rattle.mesh_model.proofs.TreeLemmas.Levels.{is_child}
 use Rattle.mesh_model.proofs.TreeLemmas.Tests.{either_true, or_left, or_right, refuted}
 use Rattle.mesh_model.proofs.TreeLemmas.Tiling.{child_is_no_leaf, child_of_whole, leaf_says}
@@ -35,9 +34,9 @@ use Rattle.prolong_op.proofs.FaceNames.{even_face}
 use Rattle.prolong_op.proofs.FaceRows.{above_in_block}
 use Rattle.rank_world.specs.Holding.{IsLeafNode, IsOfValidMesh, LeavesHoldFaces, face_array}
 use Rattle.rank_world.proofs.FaceBlocks.{leaf_face_seen}
-use Rattle.regrid_move.specs.FaceKeeps.{AreBitsOf, AreKeptSides, IsKeptSide, OthersStay, IsLeafBeside, IsSideCopied, side_of}
-use Rattle.regrid_move.specs.declared.splitting.Sides.{Sides}
-use Rattle.regrid_move.proofs.SideLeaves.{across, by_spot, calm_beside, no_leaf_face, seen_beside}
+use Rattle.leaf_split.specs.FaceKeeps.{AreBitsOf, AreKeptSides, IsKeptSide, OthersStay, IsLeafBeside, IsSideCopied, side_of}
+use Rattle.leaf_split.specs.declared.faces.Sides.{Sides}
+use Rattle.leaf_split.proofs.SideLeaves.{across, by_spot, calm_beside, no_leaf_face, seen_beside}
 
 -- ---- which positions are those of kept sides
 
@@ -291,10 +290,3 @@ module _ (w : WorldState) (of : IsOfValidMesh w) (declared : 0 < w.told.counts.f
       (children_split w.told.grid field b q kept ps xs new there at_home hq (leaf_whole_block w.told.grid there b node.leaf) here (parent_views field holds)
       (kept_hold w of declared b q kept x y z bits xs node.leaf at_home child_inside child_sides field holds)
       (others_inside w of declared b q kept x y z bits xs node.leaf at_home child_inside child_sides) a)
-
--- a node's faces that were given numbers which hold views
-pub one_moved : (old new : WorldState) (field : FaceAt → ℤ) (node : ℕ) (a : Axis) (b : BlockAt) (ys : List ℤ) → block_at new.told.grid node ≡ b → face_array new a node ≡ ys →
-    HoldsFaces old.told.grid field a b (faces_in old.told.grid a ys) → AxisMoved old new field node a
-one_moved old new field node a b ys block numbers holds =
-    subst (λ d. HoldsFaces old.told.grid field a d (faces_in old.told.grid a (face_array new a node))) (sym block)
-    (subst (λ zs. HoldsFaces old.told.grid field a b (faces_in old.told.grid a zs)) (sym numbers) holds)

@@ -18,7 +18,7 @@ use Rattle.block_tree.specs.Numbered.{block_at}
 use Rattle.block_tree.specs.SideFaces.{side_position}
 use Rattle.rank_world.specs.Holding.{IsLeafNode, LeavesHoldFaces}
 use Rattle.block_store.specs.declared.regions.PlaceAt.{PlaceAt}
-use Rattle.regrid_move.specs.declared.splitting.Sides.{Sides}
+use Rattle.leaf_split.specs.declared.faces.Sides.{Sides}
 
 -- the node is the leaf of the block's level that stands beside it on a side; no leaf of its level stands there
 pub record IsLeafBeside (g : Grid) (a : Axis) (high : Bool) (b : BlockAt) (node : ℕ) : Type 0 where

@@ -29,7 +29,7 @@ use Rattle.block_tree.proofs.SideAxes.{Neighbours, ends_meet, in_row, inside_sta
 use Rattle.block_tree.proofs.SideFaces.{cell, high_inside, high_outside, low_inside, low_outside}
 use Rattle.mesh_model.proofs.FieldLemmas.Sums.{wrapped_end}
 use Rattle.rank_world.proofs.FaceBlocks.{leaf_face_seen}
-use Rattle.regrid_move.specs.FaceKeeps.{NoLeafBeside}
+use Rattle.leaf_split.specs.FaceKeeps.{NoLeafBeside}
 
 -- ---- blocks beside
 

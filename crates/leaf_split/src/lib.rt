@@ -1,0 +1,7 @@
+//! What a child of a leaf would hold, were the leaf refined: its parts of the leaf's numbers, and on its boundary the numbers
+//! of the leaves of its level that stand there.
+#![tactic(auto)]
+
+mod faces;
+
+pub use faces::child_faces;
