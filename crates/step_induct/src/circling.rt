@@ -1,0 +1,288 @@
+//! The circulations of a block's edges round its faces.
+
+ghost use Rattle.amr_num.specs.Numbers.{Within, at};
+ghost use Rattle.amr_num.specs.declared.Axis.TheVariants.{X, Y, Z};
+ghost use Rattle.mesh_model.specs.Fields.ArrayPlaces.{IsRowWritten, IsSize, edge_extents, face_extents, number_at, row_of, size_of};
+ghost use Rattle.mesh_model.specs.Fields.FaceSplits.{by_axis, face_box};
+ghost use Rattle.mesh_model.specs.Geometry.Coordinates as coordinates;
+ghost use Rattle.mesh_model.specs.Geometry.Places.{longer_across, longer_on};
+ghost use Rattle.std.specs.Prelude.{◌≡◌, ℕ, ◌+◌, ◌*◌, ◌/◌, ◌%◌, ◌^◌, ◌<◌, ◌≤◌, ◌+ℤ◌, ◌-ℤ◌, IfErr, OnOk, None, Some, length};
+ghost use Rattle.step_induct.specs.Circling as circling;
+ghost use Rattle.step_induct.specs.Circling.{AreEdgeArrays, IsCirculated, circled, edges_of, first_above, round_in, told_above};
+
+use amr_num::Axis;
+use block_store::{Above, CountedFaces, Extents, PlaceAt, faces_above, place, row};
+use mesh_model::Var;
+
+/// A number of a block that is out of range.
+#[derive(Clone, Copy, Debug, PartialEq, Eq)]
+pub struct RangeAt {
+    /// The axis that the face is normal to.
+    pub axis: Axis,
+    /// The coordinate on x in the block, from 0.
+    pub i: u32,
+    /// That on y.
+    pub j: u32,
+    /// That on z.
+    pub k: u32,
+    /// The number.
+    pub value: i64,
+}
+
+/// The arrays of a block of `n` cells along each axis with `g` guard cells on each side.
+#[derive(Clone, Copy)]
+struct Size {
+    n: usize,
+    g: usize,
+}
+
+/// The sum of two numbers.
+#[inline]
+fn plus(a: i64, b: i64) -> i64
+    requires a { Within (2 ^ 56) a }
+    requires b { Within (2 ^ 56) b }
+    ensures value { result ≡ a +ℤ b }
+    ensures size { Within (2 ^ 57) result }
+{
+    a + b
+}
+
+/// `a` without `b`.
+#[inline]
+fn less(a: i64, b: i64) -> i64
+    requires a { Within (2 ^ 58) a }
+    requires b { Within (2 ^ 56) b }
+    ensures value { result ≡ a -ℤ b }
+    ensures size { Within (2 ^ 57) a → Within (2 ^ 58) result }
+{
+    a - b
+}
+
+/// What flows round a face, along its edges in turn: forth along two of them, and back along the others.
+#[inline]
+fn round(first: i64, second: i64, third: i64, last: i64) -> i64
+    requires first { Within (2 ^ 56) first }
+    requires second { Within (2 ^ 56) second }
+    requires third { Within (2 ^ 56) third }
+    requires last { Within (2 ^ 56) last }
+    ensures { result ≡ first +ℤ second -ℤ third -ℤ last }
+{
+    less(less(plus(first, second), third), last)
+}
+
+/// The same of a face of a row.
+#[tactic(auto, unfolding(crate::specs::Circling::round_in))]
+#[inline]
+fn round_at(first: &[i64], second: &[i64], third: &[i64], last: &[i64], t: usize) -> i64
+    requires inside { (t < length first.now) × (t < length second.now) × (t < length third.now) × (t < length last.now) }
+    requires first { Within (2 ^ 56) (at first.now t) }
+    requires second { Within (2 ^ 56) (at second.now t) }
+    requires third { Within (2 ^ 56) (at third.now t) }
+    requires last { Within (2 ^ 56) (at last.now t) }
+    ensures { result ≡ round_in first.now second.now third.now last.now t }
+{
+    round(first[t], second[t], third[t], last[t])
+}
+
+/// The same of a row of faces.
+#[inline]
+fn round_row(first: &[i64], second: &[i64], third: &[i64], last: &[i64], out: &mut [i64])
+    requires first { length first.now ≡ length out.old }
+    requires second { length second.now ≡ length out.old }
+    requires third { length third.now ≡ length out.old }
+    requires last { length last.now ≡ length out.old }
+    requires first_small { (t : ℕ) → t < length out.old → Within (2 ^ 56) (at first.now t) }
+    requires second_small { (t : ℕ) → t < length out.old → Within (2 ^ 56) (at second.now t) }
+    requires third_small { (t : ℕ) → t < length out.old → Within (2 ^ 56) (at third.now t) }
+    requires last_small { (t : ℕ) → t < length out.old → Within (2 ^ 56) (at last.now t) }
+    ensures size { length out.new ≡ length out.old }
+    ensures numbers { (t : ℕ) → t < length out.old → at out.new t ≡ round_in first.now second.now third.now last.now t }
+{
+    for t in 0..out.len() {
+        out[t] = round_at(first, second, third, last, t);
+    }
+}
+
+/// A row of a block's edges along an axis, from the place (i, j, k) in the block on.
+#[inline]
+fn edge_row<'a>(
+    size: Size,
+    axis: Axis,
+    values: &'a [i64],
+    i: usize,
+    j: usize,
+    k: usize,
+    many: usize,
+) -> &'a [i64]
+    requires size { IsSize size.n size.g }
+    requires whole { length values.now ≡ size_of (edge_extents size.n size.g axis) }
+    requires some { 0 < many }
+    requires inside { (i + many ≤ longer_across axis X size.n) × (j < longer_across axis Y size.n) × (k < longer_across axis Z size.n) }
+    ensures size { length result.now ≡ many }
+    ensures numbers { (t : ℕ) → t < many → at result.now t ≡ number_at (edge_extents size.n size.g axis) values.now (size.g + (t + i)) (size.g + j) (size.g + k) }
+{
+    let Size { n, g } = size;
+    row(
+        Extents::of(n, g, Var::Edge(axis)),
+        values,
+        g + i,
+        g + j,
+        g + k,
+        many,
+    )
+}
+
+/// The next axis in the cycle x, y, z.
+fn next(axis: Axis) -> Axis
+    ensures { result ≡ coordinates.next axis }
+{
+    match axis {
+        Axis::X => Axis::Y,
+        Axis::Y => Axis::Z,
+        Axis::Z => Axis::X,
+    }
+}
+
+/// One step on an axis.
+fn step(axis: Axis) -> PlaceAt
+    ensures { result ≡ record { x = (coordinates.step axis 1).x; y = (coordinates.step axis 1).y; z = (coordinates.step axis 1).z } }
+{
+    match axis {
+        Axis::X => PlaceAt { x: 1, y: 0, z: 0 },
+        Axis::Y => PlaceAt { x: 0, y: 1, z: 0 },
+        Axis::Z => PlaceAt { x: 0, y: 0, z: 1 },
+    }
+}
+
+/// The one of three arrays that is of an axis.
+fn along<'a>(axis: Axis, ex: &'a [i64], ey: &'a [i64], ez: &'a [i64]) -> &'a [i64]
+    ensures { result.now ≡ by_axis ex.now ey.now ez.now axis }
+{
+    match axis {
+        Axis::X => ex,
+        Axis::Y => ey,
+        Axis::Z => ez,
+    }
+}
+
+/// Sets a row of the faces normal to an axis to the circulations of the edges round them.
+fn face_row(
+    size: Size,
+    axis: Axis,
+    ex: &[i64],
+    ey: &[i64],
+    ez: &[i64],
+    j: usize,
+    k: usize,
+    out: &mut [i64],
+)
+    requires size { IsSize size.n size.g }
+    requires arrays { AreEdgeArrays size.n size.g (by_axis ex.now ey.now ez.now) }
+    requires inside { (j < longer_on axis Y size.n) × (k < longer_on axis Z size.n) }
+    requires out { length out.old ≡ longer_on axis X size.n }
+    ensures size { length out.new ≡ length out.old }
+    ensures numbers { (t : ℕ) → t < longer_on axis X size.n → at out.new t ≡ circled (edges_of size.n size.g (by_axis ex.now ey.now ez.now)) axis t j k }
+{
+    let b = next(axis);
+    let c = next(b);
+    let along_b = along(b, ex, ey, ez);
+    let along_c = along(c, ex, ey, ez);
+    let on_b = step(b);
+    let on_c = step(c);
+    let many = out.len();
+    let first = edge_row(size, b, along_b, 0, j, k, many);
+    let second = edge_row(size, c, along_c, on_b.x, j + on_b.y, k + on_b.z, many);
+    let third = edge_row(size, b, along_b, on_c.x, j + on_c.y, k + on_c.z, many);
+    let last = edge_row(size, c, along_c, 0, j, k, many);
+    round_row(first, second, third, last, out);
+}
+
+/// Sets the `m`-th row of a block's faces normal to an axis.
+fn circle_row(size: Size, axis: Axis, ex: &[i64], ey: &[i64], ez: &[i64], m: usize, out: &mut [i64])
+    requires size { IsSize size.n size.g }
+    requires arrays { AreEdgeArrays size.n size.g (by_axis ex.now ey.now ez.now) }
+    requires row { m < longer_on axis Y size.n * longer_on axis Z size.n }
+    requires out { length out.old ≡ size_of (face_extents size.n size.g axis) }
+    ensures { let h = longer_on axis Y size.n in
+        IsRowWritten (row_of (face_extents size.n size.g axis) (face_box size.n size.g axis) m) (longer_on axis X size.n)
+        (λ t. circled (edges_of size.n size.g (by_axis ex.now ey.now ez.now)) axis t (m % h) (m / h)) out.old out.new }
+{
+    let Size { n, g } = size;
+    let many = Extents::of_block_faces(n, axis);
+    let j = m % many.y;
+    let k = m / many.y;
+    let to = place(Extents::of_faces(n, g, axis), g, g + j, g + k);
+    face_row(size, axis, ex, ey, ez, j, k, &mut out[to..to + many.x]);
+}
+
+/// Sets a block's faces normal to an axis.
+fn circle(size: Size, axis: Axis, ex: &[i64], ey: &[i64], ez: &[i64], out: &mut [i64])
+    requires size { IsSize size.n size.g }
+    requires arrays { AreEdgeArrays size.n size.g (by_axis ex.now ey.now ez.now) }
+    requires out { length out.old ≡ size_of (face_extents size.n size.g axis) }
+    ensures { IsCirculated size.n size.g axis (by_axis ex.now ey.now ez.now) out.old out.new }
+{
+    let many = Extents::of_block_faces(size.n, axis);
+    for m in 0..many.y * many.z {
+        circle_row(size, axis, ex, ey, ez, m, out);
+    }
+}
+
+/// What is told of a face that is out of range.
+fn told(axis: Axis, found: Above) -> RangeAt
+    ensures { result ≡ told_above axis found }
+{
+    RangeAt {
+        axis,
+        i: found.i,
+        j: found.j,
+        k: found.k,
+        value: found.value,
+    }
+}
+
+/// Sets each face of a block normal to an axis to the circulation of the block's edges round it, those on its sides among
+/// them: with b and c the axes after `axis` in the cycle x, y, z, along b at the low c position, plus along c at the high b
+/// position, minus along b at the high c position, minus along c at the low b position. The guards of `out` stay.
+///
+/// `leaf_sides` says on which of the block's sides, in the order x low, x high, y low, y high, z low, z high, its faces are
+/// leaf faces: these and the faces inside the block are held to [`amr_num::RANGE`]. The arrays are those of blocks of `N`
+/// cells along each axis with `G` guard cells on each side, and their numbers on the block's edges are at most 2^56 in
+/// absolute value.
+///
+/// # Errors
+///
+/// The first of these faces, x fastest, then y, then z, whose number is out of range. All faces are set all the same.
+pub fn curl<const N: usize, const G: usize>(
+    axis: Axis,
+    ex: &[i64],
+    ey: &[i64],
+    ez: &[i64],
+    leaf_sides: [bool; 6],
+    out: &mut [i64],
+) -> Result<(), RangeAt>
+    requires size { IsSize N G }
+    requires arrays { AreEdgeArrays N G (by_axis ex.now ey.now ez.now) }
+    requires out { length out.old ≡ size_of (face_extents N G axis) }
+    ensures made { IsCirculated N G axis (by_axis ex.now ey.now ez.now) out.old out.new }
+    ensures in_range { OnOk result (first_above N axis leaf_sides (circled (edges_of N G (by_axis ex.now ey.now ez.now)) axis) ≡ None) }
+    ensures refused { IfErr result (λ at. first_above N axis leaf_sides (circled (edges_of N G (by_axis ex.now ey.now ez.now)) axis) ≡ Some at) }
+{
+    circle(Size { n: N, g: G }, axis, ex, ey, ez, out);
+    match faces_above(N, G, out, counted(axis, leaf_sides)) {
+        None => Ok(()),
+        Some(found) => Err(told(axis, found)),
+    }
+}
+
+/// Which of a block's faces normal to an axis are held to the range.
+fn counted(axis: Axis, sides: [bool; 6]) -> CountedFaces
+    ensures { result ≡ circling.counted axis sides }
+{
+    let (low, high) = match axis {
+        Axis::X => (sides[0], sides[1]),
+        Axis::Y => (sides[2], sides[3]),
+        Axis::Z => (sides[4], sides[5]),
+    };
+    CountedFaces { axis, low, high }
+}
