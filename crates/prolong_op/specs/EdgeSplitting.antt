@@ -4,9 +4,8 @@ use Rattle.amr_num.specs.declared.Axis.{Axis}
 use Rattle.amr_num.specs.declared.Axis.TheVariants.{X, Y, Z}
 use Rattle.amr_num.specs.Numbers.{Within, number_range, part}
 use Rattle.mesh_model.specs.Geometry.Places.{longer_across}
-use Rattle.mesh_model.specs.Fields.ArrayPlaces.{Extents}
 use Rattle.mesh_model.specs.Fields.EdgeSplits.{are_even, edge_mean, is_kept_edge}
-use Rattle.mesh_model.specs.Fields.FaceSplits.{by_axis, face_above, position}
+use Rattle.mesh_model.specs.Fields.FaceSplits.{face_above, position}
 
 -- an edge is a part of the parent's
 abbrev pub is_edge_part : ℕ → ℕ → Axis → ℕ → ℕ → ℕ → Bool
@@ -25,12 +24,6 @@ abbrev pub number_beside : Axis → (ℕ → ℕ → ℕ → ℤ) → ℕ → �
 number_beside X numbers i j k p r = numbers i p r
 number_beside Y numbers i j k p r = numbers r j p
 number_beside Z numbers i j k p r = numbers p r k
-
--- these stand in an array
-pub record IsBeside (e : Extents) (g : ℕ) (a : Axis) (i j k p r : ℕ) : Type 0 where
-  pub x : g + by_axis i r p a < e.x
-  pub y : g + by_axis p j r a < e.y
-  pub z : g + by_axis r p k a < e.z
 
 -- what an edge has as the means are there: what it had on a kept part of the boundary, and else the mean of the edges at even positions
 unfoldable pub mean_or_old : ℕ → ℕ → ℕ → Axis → (ℕ → ℕ → ℕ → ℤ) → ℕ → ℕ → ℕ → ℤ

@@ -1,6 +1,6 @@
 //! Parts of edges, and the means between them.
 
-ghost use Rattle.amr_num.specs.Numbers.{at};
+ghost use Rattle.amr_num.specs.Numbers.{Within, at, number_range};
 ghost use Rattle.amr_num.specs.declared.Axis.TheVariants.{X, Y, Z};
 ghost use Rattle.amr_num.specs.declared.Axis.{Axis as Axes};
 ghost use Rattle.mesh_model.specs.Fields.ArrayPlaces as places;
@@ -11,8 +11,8 @@ ghost use Rattle.mesh_model.specs.Fields.FaceSplits.{by_axis, position as positi
 ghost use Rattle.mesh_model.specs.Geometry.Coordinates as coordinates;
 ghost use Rattle.mesh_model.specs.Geometry.Places.{longer_across};
 ghost use Rattle.prolong_op.specs.EdgeSplitting as splitting;
-ghost use Rattle.prolong_op.specs.EdgeSplitting.{EvenEdgesAreSmall, IsBeside, edge_given, edge_part_or_old};
-ghost use Rattle.std.specs.Prelude.{◌≡◌, ℕ, ◌+◌, ◌/◌, ◌<◌, ◌≤◌, length};
+ghost use Rattle.prolong_op.specs.EdgeSplitting.{EvenEdgesAreSmall, edge_given, edge_part_or_old};
+ghost use Rattle.std.specs.Prelude.{◌≡◌, ℕ, ◌+◌, ◌/◌, ◌%◌, ◌<◌, ◌≤◌, length};
 
 use crate::common::{Row, Split, direction, is_kept, position, write_row};
 use amr_num::{Axis, mean4, part};
@@ -239,21 +239,20 @@ fn part_edges(split: Split, axis: Axis, parent: &[i64], child: &mut [i64])
     }
 }
 
-/// The number at two positions beside an edge: `p` on the next axis and `r` on the one after it.
-fn number_beside(
-    extents: Extents,
-    g: usize,
-    values: &[i64],
-    edge: Edge,
-    p: usize,
-    r: usize,
-) -> i64
-    requires small { (g ≤ 4) × (extents.x ≤ 17) × (extents.y ≤ 17) × (extents.z ≤ 17) }
-    requires whole { length values.now ≡ size_of extents }
-    requires inside { IsBeside extents g edge.axis edge.i edge.j edge.k p r }
-    ensures { result ≡ splitting.number_beside edge.axis (λ i j k. number_at extents values.now (g + i) (g + j) (g + k)) edge.i edge.j edge.k p r }
+/// The number at two even positions beside an edge: `p` on the next axis and `r` on the one after it.
+fn number_beside(n: usize, g: usize, values: &[i64], edge: Edge, p: usize, r: usize) -> i64
+    requires size { IsSize n g }
+    requires whole { length values.now ≡ size_of (edge_extents n g edge.axis) }
+    requires inside { (edge.i < longer_across edge.axis X n) × (edge.j < longer_across edge.axis Y n) × (edge.k < longer_across edge.axis Z n) }
+    requires across { (p ≤ n) × (r ≤ n) }
+    requires even { (p % 2 ≡ 0) × (r % 2 ≡ 0) }
+    requires small { EvenEdgesAreSmall n g edge.axis (number_at (edge_extents n g edge.axis) values.now) }
+    ensures value { let e = edge_extents n g edge.axis in
+        result ≡ splitting.number_beside edge.axis (λ i j k. number_at e values.now (g + i) (g + j) (g + k)) edge.i edge.j edge.k p r }
+    ensures small { Within number_range result }
 {
     let Edge { axis, i, j, k } = edge;
+    let extents = Extents::of(n, g, Var::Edge(axis));
     match axis {
         Axis::X => values[place(extents, g + i, g + p, g + r)],
         Axis::Y => values[place(extents, g + r, g + j, g + p)],
@@ -270,16 +269,15 @@ fn mean_beside(n: usize, g: usize, values: &[i64], edge: Edge) -> i64
     requires small { EvenEdgesAreSmall n g edge.axis (number_at (edge_extents n g edge.axis) values.now) }
     ensures { let e = edge_extents n g edge.axis in result ≡ edge_mean edge.axis (λ i j k. number_at e values.now (g + i) (g + j) (g + k)) edge.i edge.j edge.k }
 {
-    let extents = Extents::of(n, g, Var::Edge(edge.axis));
     let first = first_position(edge);
     let second = second_position(edge);
     let (low, high) = (first - first % 2, first + first % 2);
     let (near, far) = (second - second % 2, second + second % 2);
     mean4(
-        number_beside(extents, g, values, edge, low, near),
-        number_beside(extents, g, values, edge, low, far),
-        number_beside(extents, g, values, edge, high, near),
-        number_beside(extents, g, values, edge, high, far),
+        number_beside(n, g, values, edge, low, near),
+        number_beside(n, g, values, edge, low, far),
+        number_beside(n, g, values, edge, high, near),
+        number_beside(n, g, values, edge, high, far),
     )
 }
 
@@ -328,7 +326,12 @@ fn mean_row(split: Split, line: Row, child: &mut [i64])
         IsRowWritten (places.place_in e split.g (split.g + line.j) (split.g + line.k)) (longer_across line.axis X split.n)
         (λ t. splitting.mean_or_old split.n split.g split.kept line.axis (number_at e child.old) t line.j line.k) child.old child.new }
 {
-    let Split { n, g, q: _, kept: _ } = split;
+    let Split {
+        n,
+        g,
+        q: _,
+        kept: _,
+    } = split;
     let Row { axis, j, k } = line;
     let extents = Extents::of(n, g, Var::Edge(axis));
     let many = edges_along(n, axis).x;

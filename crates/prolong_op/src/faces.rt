@@ -15,8 +15,8 @@ ghost use Rattle.prolong_op.specs.Splitting.{AreBetween, AreSides, EvenAreSmall,
 ghost use Rattle.prolong_op.specs.Sides.{sides_of};
 ghost use Rattle.std.specs.Prelude.{◌≡◌, ℕ, ◌+◌, ◌*◌, ◌/◌, ◌%◌, ◌^◌, ◌<◌, ◌≤◌, if◌then◌else◌, length};
 
-use crate::inner::{Inner, Outer, inner_faces};
 use crate::common::{Row, Split, direction, is_kept, position, write_row};
+use crate::inner::{Inner, Outer, inner_faces};
 use amr_num::{Axis, part};
 use block_store::{Extents, place, row};
 
