@@ -2,19 +2,20 @@
 
 ghost use Rattle.amr_num.specs.Numbers.{Within, at};
 ghost use Rattle.amr_num.specs.declared.Axis.TheVariants.{X, Y, Z};
-ghost use Rattle.mesh_model.specs.Fields.ArrayPlaces.{Fits, IsSize, cell_extents, face_extents, number_at, size_of};
+ghost use Rattle.mesh_model.specs.Fields.ArrayPlaces.{Fits, IsSize, cell_extents, edge_extents, face_extents, number_at, size_of};
+ghost use Rattle.mesh_model.specs.Fields.EdgeSplits as edge_splits;
 ghost use Rattle.mesh_model.specs.Fields.FaceSplits as splits;
 ghost use Rattle.mesh_model.specs.Fields.Firsts.{first_in_places};
 ghost use Rattle.block_store.specs.Above as above;
 ghost use Rattle.block_store.specs.Regions.{box_of};
-ghost use Rattle.block_store.specs.Above.{counted_at, first_in_block, first_in_faces, first_in_plane, first_in_row};
+ghost use Rattle.block_store.specs.Above.{counted_at, first_in_block, first_in_edges, first_in_faces, first_in_plane, first_in_row};
 ghost use Rattle.std.specs.Prelude.{◌≡◌, ◌+◌, ◌<◌, ◌≤◌, ◌^◌, ◌==◌, ◌||◌, ◌&&◌, not, ℕ, IsTrue, length};
 
 use crate::places::{Extents, row};
 use crate::regions::{PlaceAt, Region};
 use amr_num::{Axis, fits};
 
-/// A number out of range, and its place among the cells of a block, or among its faces normal to an axis.
+/// A number out of range, and its place among the cells of a block, among its faces normal to an axis or among its edges along one.
 #[derive(Clone, Copy, Debug, PartialEq, Eq)]
 pub struct Above {
     /// The coordinate on x in the block.
@@ -38,6 +39,16 @@ pub struct CountedFaces {
     pub high: bool,
 }
 
+/// The edges of a block along an axis, but for those on some parts of its boundary: bit x + 3 y + 9 z stands for the part in
+/// the direction (x, y, z), where on each axis 0 is down, 1 is none and 2 is up.
+#[derive(Clone, Copy, Debug, PartialEq, Eq)]
+pub struct CountedEdges {
+    /// The axis.
+    pub axis: Axis,
+    /// The bits of the parts of the boundary that are left out.
+    pub left_out: u32,
+}
+
 /// Which numbers of a block count.
 #[derive(Clone, Copy)]
 enum Counted {
@@ -45,6 +56,8 @@ enum Counted {
     Cells,
     /// Those of some of its faces.
     Faces(CountedFaces),
+    /// Those of some of its edges.
+    Edges(CountedEdges),
 }
 
 /// The one of three coordinates that is on an axis.
@@ -66,6 +79,38 @@ fn is_counted_face(n: usize, faces: CountedFaces, p: usize) -> bool
     (faces.low || p != 0) && (faces.high || p != n)
 }
 
+/// The step on an axis of `n` cells to the part of a block's boundary at a position.
+fn end_step(n: usize, position: usize) -> u32
+    ensures value { result ≡ edge_splits.end_step n position }
+    ensures few { result ≤ 2 }
+{
+    if position == 0 {
+        0
+    } else if position == n {
+        2
+    } else {
+        1
+    }
+}
+
+/// The direction of the part of a block's boundary on which an edge lies, 13 for one that lies inside.
+fn edge_direction(n: usize, axis: Axis, i: usize, j: usize, k: usize) -> u32
+    ensures value { result ≡ edge_splits.edge_direction n axis i j k }
+    ensures few { result < 27 }
+{
+    let x = if axis == Axis::X { 1 } else { end_step(n, i) };
+    let y = if axis == Axis::Y { 1 } else { end_step(n, j) };
+    let z = if axis == Axis::Z { 1 } else { end_step(n, k) };
+    x + 3 * y + 9 * z
+}
+
+/// Whether an edge counts.
+fn is_counted_edge(n: usize, edges: CountedEdges, i: usize, j: usize, k: usize) -> bool
+    ensures { result ≡ above.is_counted_edge n edges i j k }
+{
+    (edges.left_out >> edge_direction(n, edges.axis, i, j, k)) % 2 != 1
+}
+
 /// Whether the number at a place counts.
 fn is_counted(n: usize, counted: Counted, i: usize, j: usize, k: usize) -> bool
     ensures { result ≡ above.is_counted n counted i j k }
@@ -73,6 +118,7 @@ fn is_counted(n: usize, counted: Counted, i: usize, j: usize, k: usize) -> bool
     match counted {
         Counted::Cells => true,
         Counted::Faces(faces) => is_counted_face(n, faces, position(faces.axis, i, j, k)),
+        Counted::Edges(edges) => is_counted_edge(n, edges, i, j, k),
     }
 }
 
@@ -246,4 +292,22 @@ pub fn faces_above(n: usize, g: usize, values: &[i64], faces: CountedFaces) -> O
     };
     let extents = Extents::of_faces(n, g, faces.axis);
     region_above(extents, region, values, n, Counted::Faces(faces))
+}
+
+/// The first number of a block's edges that count that is out of range, x fastest, then y, then z.
+pub fn edges_above(n: usize, g: usize, values: &[i64], edges: CountedEdges) -> Option<Above>
+    requires size { IsSize n g }
+    requires values { length values.now ≡ size_of (edge_extents n g edges.axis) }
+    ensures { result ≡ first_in_edges (λ x y z. number_at (edge_extents n g edges.axis) values.now (g + x) (g + y) (g + z)) n edges }
+{
+    let at = PlaceAt { x: g, y: g, z: g };
+    let along = Extents::of_block_edges(n, edges.axis);
+    let region = Region {
+        at,
+        along_x: along.x,
+        along_y: along.y,
+        along_z: along.z,
+    };
+    let extents = Extents::of_edges(n, g, edges.axis);
+    region_above(extents, region, values, n, Counted::Edges(edges))
 }

@@ -14,7 +14,7 @@ mod pool;
 mod regions;
 mod store;
 
-pub use above::{Above, CountedFaces, block_above, faces_above};
+pub use above::{Above, CountedEdges, CountedFaces, block_above, edges_above, faces_above};
 pub use axes::{Edges, Faces};
 pub use cells::Cells;
 pub use layout::Layout;

@@ -33,7 +33,7 @@ impl Extents {
     ghost use Rattle.mesh_model.specs.Fields.ArrayPlaces as places;
     ghost use Rattle.amr_num.specs.declared.Axis.TheVariants.{X, Y, Z};
     ghost use Rattle.mesh_model.specs.Fields.ArrayPlaces.{IsSize};
-    ghost use Rattle.mesh_model.specs.Geometry.Places.{longer_on};
+    ghost use Rattle.mesh_model.specs.Geometry.Places.{longer_across, longer_on};
     ghost use Rattle.std.specs.Prelude.{◌≡◌, ◌≤◌};
 
     /// The extents of a variable's array in blocks of `n` cells along each axis with `g` guard cells on each side.
@@ -85,14 +85,21 @@ impl Extents {
     }
 
     /// Those of an array of the edges along an axis.
-    fn of_edges(n: usize, g: usize, axis: Axis) -> Extents
+    pub fn of_edges(n: usize, g: usize, axis: Axis) -> Extents
         requires { IsSize n g }
         ensures { result ≡ places.edge_extents n g axis }
     {
-        let side = n + 2 * g;
-        let x = if axis == Axis::X { side } else { side + 1 };
-        let y = if axis == Axis::Y { side } else { side + 1 };
-        let z = if axis == Axis::Z { side } else { side + 1 };
+        Extents::of_block_edges(n + 2 * g, axis)
+    }
+
+    /// How many edges along an axis a block of `n` cells along each axis has along each, those on its sides among them.
+    pub fn of_block_edges(n: usize, axis: Axis) -> Extents
+        requires { n ≤ 16 }
+        ensures { result ≡ record { x = longer_across axis X n; y = longer_across axis Y n; z = longer_across axis Z n } }
+    {
+        let x = if axis == Axis::X { n } else { n + 1 };
+        let y = if axis == Axis::Y { n } else { n + 1 };
+        let z = if axis == Axis::Z { n } else { n + 1 };
         Extents { x, y, z }
     }
 }

@@ -19,3 +19,6 @@ pub mod Later
 pub mod BlocksBeside
 pub mod SideAxes
 pub mod SideFaces
+pub mod RoundBlocks
+pub mod RoundEdges
+pub mod Parts

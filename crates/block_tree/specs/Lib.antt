@@ -7,3 +7,4 @@ pub mod Searching
 pub mod Places
 pub mod Beside
 pub mod SideFaces
+pub mod Directions

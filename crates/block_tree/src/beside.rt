@@ -39,7 +39,7 @@ fn coordinate_beside(periodic: bool, high: bool, many: u32, at: u32) -> Option<u
 }
 
 /// How many blocks of `level` stand side by side on an axis.
-fn blocks_on(shape: &Shape, axis: Axis, level: u32) -> u32
+pub(crate) fn blocks_on(shape: &Shape, axis: Axis, level: u32) -> u32
     requires shape { IsShape shape.now }
     requires level { level ≤ 10 }
     ensures { result ≡ coordinates.roots shape.now axis * 2 ^ level }

@@ -6,12 +6,16 @@
 
 mod beside;
 mod blocks;
+mod directions;
 mod marks;
 mod places;
 mod search;
 mod tree;
 
 pub use beside::{block_beside, finer_beside};
+pub use directions::{
+    Direction, Round, block_toward, direction_at, direction_bit, finer_parts, node_round,
+};
 pub use marks::Marks;
 pub use tree::{GrowStop, NodeKind, Tree};
 

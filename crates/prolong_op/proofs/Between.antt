@@ -13,7 +13,7 @@ use Rattle.mesh_model.specs.Fields.Views.{inner_face, is_even}
 use Rattle.mesh_model.proofs.FieldLemmas.Inside.{not_even}
 use Rattle.mesh_model.proofs.GeometryLemmas.Halves.{by_size}
 use Rattle.prolong_op.specs.Splitting.{AreBetween, EvenAreSmall, SidesAreSmall, cell_number, middle_box}
-use Rattle.prolong_op.proofs.FaceRows.{faces_fit}
+use Rattle.prolong_op.proofs.Lines.{block_place, face_lines, faces_of}
 
 -- ---- odd and even
 
@@ -200,7 +200,7 @@ module _ (n g : ℕ) (size : IsSize n g) where
 
   -- a face of a block stands within its array
   pub face_inside : (a : Axis) (i j k : ℕ) → i < longer_on a X n → j < longer_on a Y n → k < longer_on a Z n → let e = face_extents n g a in (g + i < e.x) × (g + j < e.y) × (g + k < e.z)
-  face_inside a i j k hi hj hk = let f = faces_fit n g size a in let x = f.x in let y = f.y in let z = f.z in (omega arith, omega arith, omega arith)
+  face_inside a i j k hi hj hk = block_place n g size (face_extents n g a) (faces_of n a) (face_lines n g a) i j k hi hj hk
 
   module _ (a : Axis) (first : Axis → ℕ → ℕ → ℕ → ℤ) (old now new : List ℤ) (c : ℕ) (within : c < n / 2 * (n / 2) * (n / 2)) (so_far : AreBetween c n g a (face_between g a first) old now) where
     pub one_more_cell : let x = c % (n / 2) in let y = c / (n / 2) % (n / 2) in let z = c / (n / 2) / (n / 2) in

@@ -14,7 +14,7 @@ use Rattle.mesh_model.specs.Geometry.Coordinates.{Inside, after, extent, face_nu
 use Rattle.mesh_model.specs.Geometry.Places.{in_block, longer_on}
 use Rattle.mesh_model.specs.Tree.Kinds.{Grid, holds, is_leaf, is_leaf_face, is_split, is_split_block, is_split_face}
 use Rattle.mesh_model.specs.Tree.ValidGrid.{Valid}
-use Rattle.mesh_model.specs.Fields.ArrayPlaces.{HoldsFaces, IsSize}
+use Rattle.mesh_model.specs.Fields.ArrayPlaces.{HoldsFaces, IsSize, face_extents}
 use Rattle.mesh_model.specs.Fields.FaceSplits.{AreFacesSplit, FaceChildrenAreSplit, KeptSidesHold, OtherSidesLieInside, all_faces, face_between, face_part, is_kept_side, is_side, position, sides_from, split_face}
 use Rattle.mesh_model.specs.Fields.FinePlaces.{faces_in}
 use Rattle.mesh_model.specs.Fields.Octants.{half_at}
@@ -32,7 +32,7 @@ use Rattle.mesh_model.proofs.TreeLemmas.Tests.{both_false}
 use Rattle.prolong_op.proofs.Between.{even_is, odd_inside, odd_of, twice_half}
 use Rattle.prolong_op.proofs.FaceNames.{block_inside, canonical_below, child_inside, even_face, face_of_child, sub_cell_of}
 use Rattle.mesh_model.proofs.FieldLemmas.CellSums.{parent_of_sub}
-use Rattle.prolong_op.proofs.FaceRows.{above_in_block}
+use Rattle.prolong_op.proofs.Lines.{above_in_block, face_lines, faces_of}
 use Rattle.prolong_op.proofs.FaceSplit.{odd_no_side}
 
 -- ---- faces between cells that are neither split nor leaf cells
@@ -198,7 +198,7 @@ module _ (g : Grid) (b : BlockAt) (q : ℕ) (valid : Valid g) (domain : InDomain
           let numbers = faces_in g a (parent a) in
           let r = cross a (i % 2) (j % 2) (k % 2) in
           let f = face_of a (canonical_on g.shape a (in_block n b u v w)) in
-          let l = above_in_block n e (record { cells = valid.shape.cells; guards = valid.shape.guards }) a q i j k hi hj hk in
+          let l = above_in_block n e (record { cells = valid.shape.cells; guards = valid.shape.guards }) (face_extents n e a) (faces_of n a) (face_lines n e a) q i j k hi hj hk in
           let same : name a i j k ≡ sub_face f r = even_face g.shape n a b q i j k valid.shape.cells (even_of (position a i j k) even) in
           let own = not_kept a i j k hi hj hk free in
           let x : e + half_at n q + i / 2 ≡ e + u = omega arith in

@@ -15,6 +15,7 @@ ghost use Rattle.prolong_op.specs.Splitting.{AreBetween, AreSides, EvenAreSmall,
 ghost use Rattle.prolong_op.specs.Sides.{sides_of};
 ghost use Rattle.std.specs.Prelude.{◌≡◌, ℕ, ◌+◌, ◌*◌, ◌/◌, ◌%◌, ◌^◌, ◌<◌, ◌≤◌, if◌then◌else◌, length};
 
+use crate::common::{Row, Split, direction, is_kept, position, write_row};
 use crate::inner::{Inner, Outer, inner_faces};
 use amr_num::{Axis, part};
 use block_store::{Extents, place, row};
@@ -57,24 +58,6 @@ pub fn split_faces<const N: usize, const G: usize>(
     split_all(split, px, py, pz, cx, cy, cz);
 }
 
-/// The child `q` of a block of `n` cells along each axis with `g` guard cells on each side, and which of its sides are kept.
-#[derive(Clone, Copy)]
-struct Split {
-    n: usize,
-    g: usize,
-    q: usize,
-    kept: u32,
-}
-
-/// The direction with a step on each axis: 0 is down, 1 is none and 2 is up.
-fn direction(x: u32, y: u32, z: u32) -> u32
-    requires { (x ≤ 2) × (y ≤ 2) × (z ≤ 2) }
-    ensures value { result ≡ splits.direction x y z }
-    ensures few { result < 27 }
-{
-    x + 3 * y + 9 * z
-}
-
 /// The direction of the side that lies one step down or up an axis.
 fn side_direction(axis: Axis, step: u32) -> u32
     requires { step ≤ 2 }
@@ -86,14 +69,6 @@ fn side_direction(axis: Axis, step: u32) -> u32
         Axis::Y => direction(1, step, 1),
         Axis::Z => direction(1, 1, step),
     }
-}
-
-/// Whether the side in a direction is kept.
-fn is_kept(kept: u32, direction: u32) -> bool
-    requires { direction < 27 }
-    ensures { result ≡ splits.is_kept kept direction }
-{
-    (kept >> direction) % 2 == 1
 }
 
 /// Whether a face at a position on its axis is on a side that is kept.
@@ -110,17 +85,6 @@ fn is_part(split: Split, axis: Axis, position: usize) -> bool
     ensures { result ≡ splitting.is_part split.n split.kept axis position }
 {
     !is_kept_side(split.n, split.kept, axis, position) && position % 2 == 0
-}
-
-/// The one of three coordinates that is on an axis.
-fn position(axis: Axis, i: usize, j: usize, k: usize) -> usize
-    ensures { result ≡ splits.position axis i j k }
-{
-    match axis {
-        Axis::X => i,
-        Axis::Y => j,
-        Axis::Z => k,
-    }
 }
 
 /// Which quarter of its parent the face at three coordinates is.
@@ -148,14 +112,6 @@ fn part_or(split: Split, axis: Axis, i: usize, j: usize, k: usize, whole: i64, o
     }
 }
 
-/// A row of a block's faces normal to an axis: the coordinates on y and z that it has in the block.
-#[derive(Clone, Copy)]
-struct Row {
-    axis: Axis,
-    j: usize,
-    k: usize,
-}
-
 /// What the faces of a row are given, from those of the parent from a place on and from what they had.
 fn part_line(split: Split, row: Row, parent: &[i64], from: usize, old: &[i64], out: &mut [i64])
     requires old { length old.now ≡ length out.old }
@@ -174,18 +130,6 @@ fn part_line(split: Split, row: Row, parent: &[i64], from: usize, old: &[i64], o
             old[t],
         );
     }
-}
-
-/// Sets a row of an array, from a place on.
-fn write_row(extents: Extents, x: usize, y: usize, z: usize, values: &[i64], array: &mut [i64])
-    requires small { (extents.x ≤ 17) × (extents.y ≤ 17) × (extents.z ≤ 17) }
-    requires some { 0 < length values.now }
-    requires inside { (x + length values.now ≤ extents.x) × (y < extents.y) × (z < extents.z) }
-    requires size { length array.old ≡ size_of extents }
-    ensures { IsRowWritten (places.place_in extents x y z) (length values.now) (at values.now) array.old array.new }
-{
-    let to = place(extents, x, y, z);
-    array[to..to + values.len()].copy_from_slice(values);
 }
 
 /// How many faces normal to an axis stand along each axis in a block of `n` cells.

@@ -137,5 +137,6 @@ module _ (w : WorldState) (valid : Valid w.told.grid) (order : Sorted w.told.gri
       edges = (λ zero. plain.world.edges.0 refl, λ none. edges);
       contents = λ v has. absurd (omega (arith, has, cells));
       on_faces = λ some. subst (λ (g : Grid). LeavesHoldFaces w (on_faces g (λ f. pos 13))) plain.world.grid faces_hold;
+      on_edges = λ some. absurd (omega (arith, some, edges));
     };
   }

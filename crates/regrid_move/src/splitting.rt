@@ -16,8 +16,8 @@ ghost use Rattle.std.specs.Prelude.{◌≡◌, ◌^◌, ◌<◌, ◌≤◌, ℤ,
 
 use amr_num::Axis;
 use block_store::Extents;
-use mesh_model::Var;
 use leaf_split::child_faces;
+use mesh_model::Var;
 use rank_world::World;
 
 /// How many faces normal to an axis a block's array has.

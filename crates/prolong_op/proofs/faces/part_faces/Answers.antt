@@ -5,7 +5,7 @@ use Rattle.mesh_model.specs.Fields.ArrayPlaces.{IsRowWritten, face_extents, numb
 use Rattle.mesh_model.specs.Fields.FaceSplits.{face_above, face_box}
 use Rattle.mesh_model.proofs.FieldLemmas.BlockPlaces.{next_row, one_more_row}
 use Rattle.prolong_op.specs.Splitting.{given, part_or_old}
-use Rattle.prolong_op.proofs.FaceRows.{faces_fit, row_as}
+use Rattle.prolong_op.proofs.Lines.{block_fits, face_lines, faces_of, row_as}
 use Rattle.prolong_op.proofs.faces.part_faces.Goals as goal
 
 pub loop-m-preserved : goal.loop-m-preserved
@@ -17,7 +17,7 @@ loop-m-preserved c =
     let m = c.loop-m.m in
     let e = face_extents n g a in
     let b = face_box n g a in
-    let fits = faces_fit n g c.requires.size a in
+    let fits = block_fits n g c.requires.size e (faces_of n a) (face_lines n g a) in
     let parent = number_at e c.args.parent.now in
     let old = c.args.child.now in
     let now = c.loop-m.child in

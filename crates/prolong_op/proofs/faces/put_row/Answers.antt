@@ -2,7 +2,8 @@ use Rattle.std.proofs.Common.{◌≡◌, ◌+◌, ◌-◌, ◌*◌, ◌/◌, ◌
 use Rattle.amr_num.specs.Numbers.{at}
 use Rattle.mesh_model.specs.Fields.ArrayPlaces.{IsRowWritten, place_in, row_of}
 use Rattle.prolong_op.specs.Splitting.{four_box, four_extents}
-use Rattle.prolong_op.proofs.FaceRows.{four_fits, four_length, four_row, row_as}
+use Rattle.prolong_op.proofs.FaceRows.{four_fits, four_length, four_row}
+use Rattle.prolong_op.proofs.Lines.{row_as}
 use Rattle.prolong_op.proofs.faces.put_row.Goals as goal
 
 pub returns : goal.returns

@@ -122,5 +122,6 @@ returns-in-None-clause-mesh g c m of =
         on_faces = λ some.
             let declared : 0 < now.told.counts.faces = subst (λ k. 0 < k) faces some in
             new_face_leaves now new m of.world.grid new_is of.valid.grid valid (c.move_values.ensures.faces none declared m.faces (of.world.on_faces declared));
+        on_edges = λ some. let zero : new.told.counts.edges ≡ 0 = ap (λ (k : Counts). k.edges) counts ∙ c.requires.edges in absurd (omega (arith, some, zero));
       };
     }

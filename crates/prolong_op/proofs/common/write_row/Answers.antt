@@ -3,7 +3,7 @@ use Rattle.std.proofs.Common.{◌≡◌, ◌+◌, ◌-◌, ◌≤◌, ap, arith,
 use Rattle.amr_num.specs.Numbers.{at}
 use Rattle.mesh_model.specs.Fields.ArrayPlaces.{IsRowWritten}
 use Rattle.mesh_model.proofs.FieldLemmas.BlockPlaces.{row_inside, row_put}
-use Rattle.prolong_op.proofs.faces.write_row.Goals as goal
+use Rattle.prolong_op.proofs.common.write_row.Goals as goal
 
 pub slice_bounds-copy_from_slice-end : goal.slice_bounds-copy_from_slice-end
 slice_bounds-copy_from_slice-end c =
