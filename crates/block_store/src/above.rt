@@ -3,14 +3,13 @@
 ghost use Rattle.amr_num.specs.Numbers.{Within, at};
 ghost use Rattle.amr_num.specs.declared.Axis.TheVariants.{X, Y, Z};
 ghost use Rattle.mesh_model.specs.Fields.ArrayPlaces.{Fits, IsSize, cell_extents, edge_extents, face_extents, number_at, size_of};
-ghost use Rattle.mesh_model.specs.Fields.EdgeSplits as edge_splits;
-ghost use Rattle.mesh_model.specs.Fields.FaceSplits as splits;
 ghost use Rattle.mesh_model.specs.Fields.Firsts.{first_in_places};
 ghost use Rattle.block_store.specs.Above as above;
 ghost use Rattle.block_store.specs.Regions.{box_of};
 ghost use Rattle.block_store.specs.Above.{counted_at, first_in_block, first_in_edges, first_in_faces, first_in_plane, first_in_row};
 ghost use Rattle.std.specs.Prelude.{◌≡◌, ◌+◌, ◌<◌, ◌≤◌, ◌^◌, ◌==◌, ◌||◌, ◌&&◌, not, ℕ, IsTrue, length};
 
+use crate::boundary::{edge_direction, is_kept, position};
 use crate::places::{Extents, row};
 use crate::regions::{PlaceAt, Region};
 use amr_num::{Axis, fits};
@@ -60,18 +59,6 @@ enum Counted {
     Edges(CountedEdges),
 }
 
-/// The one of three coordinates that is on an axis.
-#[inline]
-fn position(axis: Axis, i: usize, j: usize, k: usize) -> usize
-    ensures { result ≡ splits.position axis i j k }
-{
-    match axis {
-        Axis::X => i,
-        Axis::Y => j,
-        Axis::Z => k,
-    }
-}
-
 /// Whether a face counts, whose position on the axis is `p`.
 fn is_counted_face(n: usize, faces: CountedFaces, p: usize) -> bool
     ensures { result ≡ ((faces.low || not (p == 0)) && (faces.high || not (p == n))) }
@@ -79,36 +66,11 @@ fn is_counted_face(n: usize, faces: CountedFaces, p: usize) -> bool
     (faces.low || p != 0) && (faces.high || p != n)
 }
 
-/// The step on an axis of `n` cells to the part of a block's boundary at a position.
-fn end_step(n: usize, position: usize) -> u32
-    ensures value { result ≡ edge_splits.end_step n position }
-    ensures few { result ≤ 2 }
-{
-    if position == 0 {
-        0
-    } else if position == n {
-        2
-    } else {
-        1
-    }
-}
-
-/// The direction of the part of a block's boundary on which an edge lies, 13 for one that lies inside.
-fn edge_direction(n: usize, axis: Axis, i: usize, j: usize, k: usize) -> u32
-    ensures value { result ≡ edge_splits.edge_direction n axis i j k }
-    ensures few { result < 27 }
-{
-    let x = if axis == Axis::X { 1 } else { end_step(n, i) };
-    let y = if axis == Axis::Y { 1 } else { end_step(n, j) };
-    let z = if axis == Axis::Z { 1 } else { end_step(n, k) };
-    x + 3 * y + 9 * z
-}
-
 /// Whether an edge counts.
 fn is_counted_edge(n: usize, edges: CountedEdges, i: usize, j: usize, k: usize) -> bool
     ensures { result ≡ above.is_counted_edge n edges i j k }
 {
-    (edges.left_out >> edge_direction(n, edges.axis, i, j, k)) % 2 != 1
+    !is_kept(edges.left_out, edge_direction(n, edges.axis, i, j, k))
 }
 
 /// Whether the number at a place counts.

@@ -6,6 +6,7 @@
 
 mod above;
 mod axes;
+mod boundary;
 mod cells;
 mod layout;
 mod making;
@@ -16,6 +17,7 @@ mod store;
 
 pub use above::{Above, CountedEdges, CountedFaces, block_above, edges_above, faces_above};
 pub use axes::{Edges, Faces};
+pub use boundary::{direction, edge_direction, is_kept, position};
 pub use cells::Cells;
 pub use layout::Layout;
 pub use places::{Extents, cell_row, number_of, place, row};

@@ -32,7 +32,7 @@ impl Model for Extents {
 impl Extents {
     ghost use Rattle.mesh_model.specs.Fields.ArrayPlaces as places;
     ghost use Rattle.amr_num.specs.declared.Axis.TheVariants.{X, Y, Z};
-    ghost use Rattle.mesh_model.specs.Fields.ArrayPlaces.{IsSize};
+    ghost use Rattle.mesh_model.specs.Fields.ArrayPlaces.{IsSize, size_of};
     ghost use Rattle.mesh_model.specs.Geometry.Places.{longer_across, longer_on};
     ghost use Rattle.std.specs.Prelude.{◌≡◌, ◌≤◌};
 
@@ -101,6 +101,14 @@ impl Extents {
         let y = if axis == Axis::Y { n } else { n + 1 };
         let z = if axis == Axis::Z { n } else { n + 1 };
         Extents { x, y, z }
+    }
+
+    /// How many places an array has in all.
+    pub fn count(self) -> usize
+        requires { (self.x ≤ 17) × (self.y ≤ 17) × (self.z ≤ 17) }
+        ensures { result ≡ size_of self }
+    {
+        self.x * (self.y * self.z)
     }
 }
 

@@ -14,10 +14,11 @@ ghost use Rattle.prolong_op.specs.EdgeSplitting as splitting;
 ghost use Rattle.prolong_op.specs.EdgeSplitting.{EvenEdgesAreSmall, edge_given, edge_part_or_old};
 ghost use Rattle.std.specs.Prelude.{◌≡◌, ℕ, ◌+◌, ◌/◌, ◌%◌, ◌<◌, ◌≤◌, length};
 
-use crate::common::{Row, Split, direction, is_kept, position, write_row};
+use crate::common::{Row, Split, write_row};
 use amr_num::{Axis, mean4, part};
-use block_store::{Extents, place, row};
+use block_store::{Extents, edge_direction, is_kept, place, position, row};
 use mesh_model::Var;
+use mesh_model::geometry::axes::after;
 
 /// Sets the edges of the child `octant` of a block, which is i + 2 j + 4 k for the halves i on x, j on y and k on z: those
 /// along x in `cx` from the block's in `px`, and so on, those on the child's sides among them. Where both of its positions
@@ -72,17 +73,6 @@ fn split_axis(split: Split, axis: Axis, parent: &[i64], child: &mut [i64])
     mean_edges(split, axis, child);
 }
 
-/// The next axis in the cycle x, y, z.
-fn next(axis: Axis) -> Axis
-    ensures { result ≡ coordinates.next axis }
-{
-    match axis {
-        Axis::X => Axis::Y,
-        Axis::Y => Axis::Z,
-        Axis::Z => Axis::X,
-    }
-}
-
 /// An edge of a block: the axis that it lies along, and its coordinates in the block.
 #[derive(Clone, Copy)]
 struct Edge {
@@ -96,48 +86,22 @@ struct Edge {
 fn first_position(edge: Edge) -> usize
     ensures { result ≡ position_on (coordinates.next edge.axis) edge.i edge.j edge.k }
 {
-    position(next(edge.axis), edge.i, edge.j, edge.k)
+    position(after(edge.axis), edge.i, edge.j, edge.k)
 }
 
 /// Its position on the axis after the next one.
 fn second_position(edge: Edge) -> usize
     ensures { result ≡ position_on (coordinates.next (coordinates.next edge.axis)) edge.i edge.j edge.k }
 {
-    position(next(next(edge.axis)), edge.i, edge.j, edge.k)
-}
-
-/// The step to the part of the boundary at a position on an axis of `n` cells: 0 is down, 1 is none and 2 is up.
-fn end_step(n: usize, position: usize) -> u32
-    ensures value { result ≡ splits.end_step n position }
-    ensures few { result ≤ 2 }
-{
-    if position == 0 {
-        0
-    } else if position == n {
-        2
-    } else {
-        1
-    }
-}
-
-/// The direction of the part of the boundary on which an edge lies; 13 where it lies inside.
-fn edge_direction(n: usize, edge: Edge) -> u32
-    ensures value { result ≡ splits.edge_direction n edge.axis edge.i edge.j edge.k }
-    ensures few { result < 27 }
-{
-    let Edge { axis, i, j, k } = edge;
-    match axis {
-        Axis::X => direction(1, end_step(n, j), end_step(n, k)),
-        Axis::Y => direction(end_step(n, i), 1, end_step(n, k)),
-        Axis::Z => direction(end_step(n, i), end_step(n, j), 1),
-    }
+    position(after(after(edge.axis)), edge.i, edge.j, edge.k)
 }
 
 /// Whether an edge lies on a part of the boundary that is kept.
 fn is_kept_edge(split: Split, edge: Edge) -> bool
     ensures { result ≡ splits.is_kept_edge split.n split.kept edge.axis edge.i edge.j edge.k }
 {
-    let direction = edge_direction(split.n, edge);
+    let Edge { axis, i, j, k } = edge;
+    let direction = edge_direction(split.n, axis, i, j, k);
     direction != 13 && is_kept(split.kept, direction)
 }
 

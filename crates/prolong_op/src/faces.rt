@@ -15,10 +15,10 @@ ghost use Rattle.prolong_op.specs.Splitting.{AreBetween, AreSides, EvenAreSmall,
 ghost use Rattle.prolong_op.specs.Sides.{sides_of};
 ghost use Rattle.std.specs.Prelude.{◌≡◌, ℕ, ◌+◌, ◌*◌, ◌/◌, ◌%◌, ◌^◌, ◌<◌, ◌≤◌, if◌then◌else◌, length};
 
-use crate::common::{Row, Split, direction, is_kept, position, write_row};
+use crate::common::{Row, Split, write_row};
 use crate::inner::{Inner, Outer, inner_faces};
 use amr_num::{Axis, part};
-use block_store::{Extents, place, row};
+use block_store::{Extents, direction, is_kept, place, position, row};
 
 /// Sets the faces of the child `octant` of a block, which is i + 2 j + 4 k for the halves i on x, j on y and k on z: those
 /// normal to x in `cx` from the block's in `px`, and so on, those on the child's sides among them. At an even position a

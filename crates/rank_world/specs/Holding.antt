@@ -140,3 +140,18 @@ pub record IsOfValidMesh (w : WorldState) : Type 0 where
   pub mesh : Mesh
   pub valid : ValidMesh mesh
   pub world : IsOfMesh w mesh
+
+-- ---- changes of arrays that stand one on each axis: of the faces or the edges, or of the work arrays of these
+
+-- those of one node may have other numbers, and all else is as it was; those of all nodes may; those of all leaves may
+pub record OnlyAxesOf (var : Axis → Var) (old new : WorldState) (node : ℕ) : Type 0 where
+  pub told : new.told ≡ old.told
+  pub others : (u : Var) (at : ℕ) → ((a : Axis) → u ≡ var a → at ≡ node → ⊥) → array_in (rank_at new 0).own.values u at ≡ array_in (rank_at old 0).own.values u at
+
+pub record OnlyAxes (var : Axis → Var) (old new : WorldState) : Type 0 where
+  pub told : new.told ≡ old.told
+  pub others : (u : Var) (at : ℕ) → ((a : Axis) → u ≡ var a → ⊥) → array_in (rank_at new 0).own.values u at ≡ array_in (rank_at old 0).own.values u at
+
+pub record OnlyLeafAxes (var : Axis → Var) (old new : WorldState) : Type 0 where
+  pub told : new.told ≡ old.told
+  pub others : (u : Var) (at : ℕ) → ((a : Axis) → u ≡ var a → IsLeafNode old.told.grid at → ⊥) → array_in (rank_at new 0).own.values u at ≡ array_in (rank_at old 0).own.values u at

@@ -13,6 +13,7 @@ ghost use Rattle.step_induct.specs.Circling.{AreEdgeArrays, IsCirculated, circle
 use amr_num::Axis;
 use block_store::{Above, CountedFaces, Extents, PlaceAt, faces_above, place, row};
 use mesh_model::Var;
+use mesh_model::geometry::axes::after;
 
 /// A number of a block that is out of range.
 #[derive(Clone, Copy, Debug, PartialEq, Eq)]
@@ -132,17 +133,6 @@ fn edge_row<'a>(
     )
 }
 
-/// The next axis in the cycle x, y, z.
-fn next(axis: Axis) -> Axis
-    ensures { result ≡ coordinates.next axis }
-{
-    match axis {
-        Axis::X => Axis::Y,
-        Axis::Y => Axis::Z,
-        Axis::Z => Axis::X,
-    }
-}
-
 /// One step on an axis.
 fn step(axis: Axis) -> PlaceAt
     ensures { result ≡ record { x = (coordinates.step axis 1).x; y = (coordinates.step axis 1).y; z = (coordinates.step axis 1).z } }
@@ -183,8 +173,8 @@ fn face_row(
     ensures size { length out.new ≡ length out.old }
     ensures numbers { (t : ℕ) → t < longer_on axis X size.n → at out.new t ≡ circled (edges_of size.n size.g (by_axis ex.now ey.now ez.now)) axis t j k }
 {
-    let b = next(axis);
-    let c = next(b);
+    let b = after(axis);
+    let c = after(b);
     let along_b = along(b, ex, ey, ez);
     let along_c = along(c, ex, ey, ez);
     let on_b = step(b);

@@ -10,7 +10,7 @@ use crate::geometry::Shape;
 use amr_num::{Axis, BlockAt, CellAt, SideKind};
 
 /// The next axis in the cycle x, y, z.
-pub(crate) fn after(axis: Axis) -> Axis
+pub fn after(axis: Axis) -> Axis
     ensures { result ≡ next axis }
 {
     match axis {
