@@ -10,7 +10,7 @@ use Rattle.mesh_model.specs.Language.Commands.{IsLineOf}
 use Rattle.mesh_model.specs.Run.Runs.{AtEachCommand, declared_in, done, mesh_after}
 use Rattle.mesh_model.proofs.RunLemmas.RunLaws.{along}
 use Rattle.mesh_model.proofs.FieldLemmas.Divergence.{curl_balances, uniform_balances}
-use Rattle.amr_engine.specs.Balancing.{MakesBalance}
+use Rattle.mesh_model.specs.Run.Runs.{MakesBalance}
 
 pub makes_balance : (m : Mesh) (command : Command) → ValidMesh m → MakesBalance m command (mesh_after m command)
 makes_balance m command valid (inl is) = subst (λ k. Balanced (mesh_after m k).grid (mesh_after m k).faces) (sym is) (curl_balances m.grid valid.grid m.edges)

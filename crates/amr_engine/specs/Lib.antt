@@ -13,4 +13,3 @@ pub mod Netting
 pub mod Setting
 pub mod Settling
 pub mod Stepping
-pub mod Balancing

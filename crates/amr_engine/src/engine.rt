@@ -80,7 +80,7 @@ fn face_variables(names: &Names) -> u32
 
 impl<const N: usize, const G: usize> Engine<N, G> {
     ghost use Rattle.amr_engine.specs.Built.{IsBuiltLine, has_guards, is_built_command};
-    ghost use Rattle.amr_engine.specs.Balancing.{MakesBalance};
+    ghost use Rattle.mesh_model.specs.Run.Runs.{MakesBalance};
     ghost use Rattle.amr_engine.specs.Plain.{declared_of, plain};
     ghost use Rattle.amr_engine.specs.Regions.{IsRegionOf, filled};
     ghost use Rattle.amr_engine.specs.MarkedWhere.{marked_where, number_of};

@@ -3,7 +3,7 @@
 ghost use Rattle.amr_program.specs.Answer.{AlongRun, IsAccepted, IsAnswer, IsRefused, IsStoppedWith, TookBeforeMemory, TookPart, most_read, plain_answer, read_in, script_in};
 ghost use Rattle.amr_program.specs.Lines.{read_line};
 ghost use Rattle.amr_program.specs.Outcome.{Outcome};
-ghost use Rattle.amr_engine.specs.Balancing.{MakesBalance};
+ghost use Rattle.mesh_model.specs.Run.Runs.{MakesBalance};
 ghost use Rattle.mesh_model.specs.Run.Runs.{KeepsBalance, KeepsOuts, KeepsTotals, StaysPositive};
 ghost use Rattle.outside_io.specs.Moved.{Rose, Takes};
 ghost use Rattle.std.specs.Prelude.{◌≡◌, ◌≢◌, ℕ, ◌<◌, ◌⊎◌, List, [], Option, Some, IfSome, drop, map, string_bytes};

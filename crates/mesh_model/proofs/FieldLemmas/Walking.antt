@@ -167,7 +167,7 @@ axis_member X = inl refl
 axis_member Y = inr (inl refl)
 axis_member Z = inr (inr (inl refl))
 
-place_at : (n u o : ℕ) → n * (u / n) + (u % n + o) ≡ u + o
+pub place_at : (n u o : ℕ) → n * (u / n) + (u % n + o) ≡ u + o
 place_at n u o = let whole = div-add-mod u n in omega arith
 
 below_n : (u n : ℕ) → 0 < n → u % n < n
@@ -221,13 +221,13 @@ unfolding wrapped
 not_end false e p h = refl
 not_end true e p h = let lt = ltb-true p e h in rw (ne_eqb p e (λ same. absurd (omega arith))) refl
 
-low_end_of : (periodic : Bool) (e p q : ℕ) → 0 < e → (not periodic || nat_lt p e) ≡ true → below periodic e p ≡ Some q → wrapped periodic e (q + 1) ≡ p
+pub low_end_of : (periodic : Bool) (e p q : ℕ) → 0 < e → (not periodic || nat_lt p e) ≡ true → below periodic e p ≡ Some q → wrapped periodic e (q + 1) ≡ p
 unfolding wrapped
 low_end_of true e zero q some h b = let last : e - 1 ≡ q = some_is b in let end : q + 1 ≡ e = omega arith in rw (eq-eqb (q + 1) e end) refl
 low_end_of false e zero q some h b = cc
 low_end_of periodic e (suc p) q some h b = let same : p ≡ q = some_is b in let next : q + 1 ≡ suc p = omega arith in ap (wrapped periodic e) next ∙ not_end periodic e (suc p) h
 
-high_end_of : (periodic : Bool) (e p q : ℕ) → (not periodic || nat_lt p e) ≡ true → above periodic e p ≡ Some q → wrapped periodic e (q + 0) ≡ p
+pub high_end_of : (periodic : Bool) (e p q : ℕ) → (not periodic || nat_lt p e) ≡ true → above periodic e p ≡ Some q → wrapped periodic e (q + 0) ≡ p
 high_end_of periodic e p q h a = elim (cases_lt p e) [
   | inl lt ↦
       let here : above periodic e p ≡ Some p = ap (λ u. if u then Some p else (if periodic then Some 0 else None)) (lt-ltb p e lt) in
@@ -244,11 +244,11 @@ high_end_of periodic e p q h a = elim (cases_lt p e) [
     past true e p q f h a = cc
     past false e p q f h a = let none : above false e p ≡ None = ap (λ u. if u then Some p else None) f in absurd (nowhere q (sym none ∙ a))
 
-moved_is : (a : Axis) (o : Option ℕ) (d c : CellAt) → moved a o d ≡ Some c → (q : ℕ) × (o ≡ Some q) × (with a q d ≡ c)
+pub moved_is : (a : Axis) (o : Option ℕ) (d c : CellAt) → moved a o d ≡ Some c → (q : ℕ) × (o ≡ Some q) × (with a q d ≡ c)
 moved_is a None d c h = cc
 moved_is a (Some q) d c h = (q, refl, some_is h)
 
-holds_some : (p : CellAt → Bool) (o : Option CellAt) → holds p o ≡ true → (c : CellAt) × (o ≡ Some c) × (p c ≡ true)
+pub holds_some : (p : CellAt → Bool) (o : Option CellAt) → holds p o ≡ true → (c : CellAt) × (o ≡ Some c) × (p c ≡ true)
 holds_some p None h = cc
 holds_some p (Some c) h = (c, refl, h)
 
@@ -319,17 +319,17 @@ rim_walked Z n c o r some lo lr =
     subst (λ u. Member u (block_edges n (block_of n c) Z)) same (member_box (suc n) (suc n) n (c.x % n + o) (c.y % n + r) (c.z % n) (λ i j k. edge_of Z (in_block n (block_of n c) i j k)) (omega arith) (omega arith) (below_n c.z n some))
 
 -- the canonical name of the edge at u and v, and how the places of a cell beside it add up to them
-canonical_across : (s : Shape) (a : Axis) (u v : ℕ) (c : CellAt) → canonical_edge s (edge_of a (across a u v c)) ≡ edge_of a (across a (wrapped (is_periodic s (next a)) (extent s (next a) c.level) u) (wrapped (is_periodic s (next (next a))) (extent s (next (next a)) c.level) v) c)
+pub canonical_across : (s : Shape) (a : Axis) (u v : ℕ) (c : CellAt) → canonical_edge s (edge_of a (across a u v c)) ≡ edge_of a (across a (wrapped (is_periodic s (next a)) (extent s (next a) c.level) u) (wrapped (is_periodic s (next (next a))) (extent s (next (next a)) c.level) v) c)
 canonical_across s X u v c = refl
 canonical_across s Y u v c = refl
 canonical_across s Z u v c = refl
 
-from_cell : (a : Axis) (q t o r : ℕ) (c : CellAt) → across a (on (next a) (across a q t c) + o) (on (next (next a)) (across a q t c) + r) (across a q t c) ≡ across a (q + o) (t + r) c
+pub from_cell : (a : Axis) (q t o r : ℕ) (c : CellAt) → across a (on (next a) (across a q t c) + o) (on (next (next a)) (across a q t c) + r) (across a q t c) ≡ across a (q + o) (t + r) c
 from_cell X q t o r c = refl
 from_cell Y q t o r c = refl
 from_cell Z q t o r c = refl
 
-own_place : (a : Axis) (c : CellAt) → across a (on (next a) c) (on (next (next a)) c) c ≡ c
+pub own_place : (a : Axis) (c : CellAt) → across a (on (next a) c) (on (next (next a)) c) c ≡ c
 own_place X c = refl
 own_place Y c = refl
 own_place Z c = refl
@@ -350,30 +350,30 @@ rim_there g e q t o r some lo lr leaf first second =
     ∙ ap (edge_of e.axis) (own_place e.axis (edge_numbers e)))
     walk
 
-moved_twice_is : (a b : Axis) (o r : Option ℕ) (d c : CellAt) → moved_twice a o b r d ≡ Some c → (q : ℕ) × (t : ℕ) × (o ≡ Some q) × (r ≡ Some t) × (with b t (with a q d) ≡ c)
+pub moved_twice_is : (a b : Axis) (o r : Option ℕ) (d c : CellAt) → moved_twice a o b r d ≡ Some c → (q : ℕ) × (t : ℕ) × (o ≡ Some q) × (r ≡ Some t) × (with b t (with a q d) ≡ c)
 moved_twice_is a b None r d c h = cc
 moved_twice_is a b (Some q) r d c h = let second = moved_is b r (with a q d) c h in (q, second.0, refl, second.1, second.2)
 
 module _ (g : Grid) (e : EdgeAt) (shape : IsShape g.shape) (h : (is_canonical_edge g.shape e && is_leaf_edge g e) ≡ true) where
-  abbrev on_first : Bool → Option ℕ
+  abbrev pub on_first : Bool → Option ℕ
   on_first low = if low then below (is_periodic g.shape (next e.axis)) (extent g.shape (next e.axis) e.level) (on (next e.axis) (edge_numbers e)) else above (is_periodic g.shape (next e.axis)) (extent g.shape (next e.axis) e.level) (on (next e.axis) (edge_numbers e))
 
-  abbrev on_second : Bool → Option ℕ
+  abbrev pub on_second : Bool → Option ℕ
   on_second low = if low then below (is_periodic g.shape (next (next e.axis))) (extent g.shape (next (next e.axis)) e.level) (on (next (next e.axis)) (edge_numbers e)) else above (is_periodic g.shape (next (next e.axis))) (extent g.shape (next (next e.axis)) e.level) (on (next (next e.axis)) (edge_numbers e))
 
-  abbrev step_of : Bool → ℕ
+  abbrev pub step_of : Bool → ℕ
   step_of low = if low then 1 else 0
 
-  step_small : (low : Bool) → step_of low ≤ 1
+  pub step_small : (low : Bool) → step_of low ≤ 1
   step_small true = omega arith
   step_small false = omega arith
 
-  first_end : (low : Bool) (q : ℕ) → on_first low ≡ Some q → wrapped (is_periodic g.shape (next e.axis)) (extent g.shape (next e.axis) e.level) (q + step_of low) ≡ on (next e.axis) (edge_numbers e)
+  pub first_end : (low : Bool) (q : ℕ) → on_first low ≡ Some q → wrapped (is_periodic g.shape (next e.axis)) (extent g.shape (next e.axis) e.level) (q + step_of low) ≡ on (next e.axis) (edge_numbers e)
   unfolding is_canonical_at
   first_end true q b = low_end_of _ _ _ q (extent_some shape (next e.axis) e.level) (and_left (is_canonical_at g.shape (next e.axis) e.level (on (next e.axis) (edge_numbers e))) (is_canonical_at g.shape (next (next e.axis)) e.level (on (next (next e.axis)) (edge_numbers e))) (and_left (is_canonical_edge g.shape e) (is_leaf_edge g e) h)) b
   first_end false q b = high_end_of _ _ _ q (and_left (is_canonical_at g.shape (next e.axis) e.level (on (next e.axis) (edge_numbers e))) (is_canonical_at g.shape (next (next e.axis)) e.level (on (next (next e.axis)) (edge_numbers e))) (and_left (is_canonical_edge g.shape e) (is_leaf_edge g e) h)) b
 
-  second_end : (low : Bool) (t : ℕ) → on_second low ≡ Some t → wrapped (is_periodic g.shape (next (next e.axis))) (extent g.shape (next (next e.axis)) e.level) (t + step_of low) ≡ on (next (next e.axis)) (edge_numbers e)
+  pub second_end : (low : Bool) (t : ℕ) → on_second low ≡ Some t → wrapped (is_periodic g.shape (next (next e.axis))) (extent g.shape (next (next e.axis)) e.level) (t + step_of low) ≡ on (next (next e.axis)) (edge_numbers e)
   unfolding is_canonical_at
   second_end true t b = low_end_of _ _ _ t (extent_some shape (next (next e.axis)) e.level) (and_right (is_canonical_at g.shape (next e.axis) e.level (on (next e.axis) (edge_numbers e))) (is_canonical_at g.shape (next (next e.axis)) e.level (on (next (next e.axis)) (edge_numbers e))) (and_left (is_canonical_edge g.shape e) (is_leaf_edge g e) h)) b
   second_end false t b = high_end_of _ _ _ t (and_right (is_canonical_at g.shape (next e.axis) e.level (on (next e.axis) (edge_numbers e))) (is_canonical_at g.shape (next (next e.axis)) e.level (on (next (next e.axis)) (edge_numbers e))) (and_left (is_canonical_edge g.shape e) (is_leaf_edge g e) h)) b

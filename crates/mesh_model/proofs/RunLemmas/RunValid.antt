@@ -115,21 +115,21 @@ same_axis Z X h = absurd (cc)
 same_axis Z Y h = absurd (cc)
 same_axis Z Z h = refl
 
-same_cell : (c d : CellAt) → is_same_cell c d ≡ true → c ≡ d
+pub same_cell : (c d : CellAt) → is_same_cell c d ≡ true → c ≡ d
 same_cell c d h =
     let with_z = and_parts ((c.level == d.level) && (c.x == d.x) && (c.y == d.y)) (c.z == d.z) h in
     let with_y = and_parts ((c.level == d.level) && (c.x == d.x)) (c.y == d.y) with_z.0 in
     let with_x = and_parts (c.level == d.level) (c.x == d.x) with_y.0 in
     λ i. record { level = eqb-true c.level d.level with_x.0 i; x = eqb-true c.x d.x with_x.1 i; y = eqb-true c.y d.y with_y.1 i; z = eqb-true c.z d.z with_z.1 i }
 
-same_face : (f h : FaceAt) → is_same_face f h ≡ true → f ≡ h
+pub same_face : (f h : FaceAt) → is_same_face f h ≡ true → f ≡ h
 same_face f h t =
     let both = and_parts _ _ t in
     let a = same_axis f.axis h.axis both.0 in
     let n = same_cell (face_numbers f) (face_numbers h) both.1 in
     λ i. record { axis = a i; level = (n i).level; x = (n i).x; y = (n i).y; z = (n i).z }
 
-same_edge : (e h : EdgeAt) → is_same_edge e h ≡ true → e ≡ h
+pub same_edge : (e h : EdgeAt) → is_same_edge e h ≡ true → e ≡ h
 same_edge e h t =
     let both = and_parts _ _ t in
     let a = same_axis e.axis h.axis both.0 in
@@ -145,13 +145,13 @@ own_place s a l p h = by_kind (is_periodic s a) h
     by_kind false h = refl
     by_kind true h = let below = ltb-true p (extent s a l) h in rw (ne_eqb p (extent s a l) (λ e. absurd (omega (arith, e, below)))) refl
 
-own_name : (s : Shape) (a : Axis) (c : CellAt) → is_canonical_at s a c.level (on a c) ≡ true → canonical_on s a c ≡ c
+pub own_name : (s : Shape) (a : Axis) (c : CellAt) → is_canonical_at s a c.level (on a c) ≡ true → canonical_on s a c ≡ c
 own_name s a c h = with_same a _ c (own_place s a c.level (on a c) h)
 
-face_as_is : (s : Shape) (f : FaceAt) → is_canonical s f ≡ true → canonical_face s f ≡ f
+pub face_as_is : (s : Shape) (f : FaceAt) → is_canonical s f ≡ true → canonical_face s f ≡ f
 face_as_is s f h = ap (face_of f.axis) (own_name s f.axis (face_numbers f) h)
 
-edge_as_is : (s : Shape) (e : EdgeAt) → is_canonical_edge s e ≡ true → canonical_edge s e ≡ e
+pub edge_as_is : (s : Shape) (e : EdgeAt) → is_canonical_edge s e ≡ true → canonical_edge s e ≡ e
 edge_as_is s e h =
     let both = and_parts _ _ h in
     let b = next e.axis in

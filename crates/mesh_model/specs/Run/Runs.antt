@@ -1,5 +1,5 @@
 -- What commands print and make of a mesh, one after the other, up to the first that is refused.
-use Rattle.std.specs.Prelude.{◌≡◌, ℕ, true, List, [], ◌∷◌, ◌++◌, Option, Some, None, ℤ, pos, ◌+ℤ◌, ◌≤ℤ◌}
+use Rattle.std.specs.Prelude.{◌≡◌, ◌⊎◌, ℕ, true, List, [], ◌∷◌, ◌++◌, Option, Some, None, ℤ, pos, ◌+ℤ◌, ◌≤ℤ◌}
 use Rattle.amr_num.specs.declared.CellAt.{CellAt}
 use Rattle.amr_num.specs.declared.FaceAt.{FaceAt}
 use Rattle.mesh_model.specs.declared.language.script.Command.{Command}
@@ -207,3 +207,10 @@ SetsFace command = (at : FaceAt) × (value : ℤ) × (command ≡ FaceSet at val
 
 abbrev pub KeepsBalance : Mesh → Command → Mesh → Type 0
 KeepsBalance before command after = ¬ SetsFace command → Balanced before.grid before.faces → Balanced after.grid after.faces
+
+-- after a command that sets all faces, to one flux by area or to circulations, no leaf cell has a net flux
+abbrev pub SetsAllFaces : Command → Type 0
+SetsAllFaces command = (command ≡ Curl) ⊎ ((b : List ℤ) × (command ≡ Uniform b))
+
+abbrev pub MakesBalance : Mesh → Command → Mesh → Type 0
+MakesBalance before command after = SetsAllFaces command → Balanced after.grid after.faces

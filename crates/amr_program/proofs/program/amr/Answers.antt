@@ -2,7 +2,7 @@ use Rattle.std.proofs.Common.{ap, map}
 use Rattle.std.specs.Prelude.{string_bytes}
 use Rattle.amr_program.proofs.Clauses as clauses
 use Rattle.mesh_model.specs.Run.Runs.{KeepsBalance, KeepsOuts, KeepsTotals, StaysPositive}
-use Rattle.amr_engine.specs.Balancing.{MakesBalance}
+use Rattle.mesh_model.specs.Run.Runs.{MakesBalance}
 use Rattle.amr_engine.proofs.Balanced.{runs_make_balance}
 use Rattle.mesh_model.proofs.RunLemmas.RunLaws.{runs_keep_balance, runs_keep_outs, runs_keep_totals, runs_stay_positive}
 use Rattle.amr_program.proofs.Commands.{along_run}
