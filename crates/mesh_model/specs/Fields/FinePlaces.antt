@@ -122,7 +122,7 @@ pub record EdgeOctantHolds (g : Grid) (field : EdgeAt → ℤ) (a : Axis) (b : B
   pub at : (i j k : ℕ) → i < longer_across a X (g.shape.n / 2) → j < longer_across a Y (g.shape.n / 2) → k < longer_across a Z (g.shape.n / 2) →
       numbers (g.shape.g + half_at g.shape.n q + i) (g.shape.g + half_at g.shape.n (q / 2) + j) (g.shape.g + half_at g.shape.n (q / 4) + k)
       ≡ edge_view g field (edge_of a (canonical_on g.shape (next a) (canonical_on g.shape (next (next a))
-          (in_block g.shape.n b (half_at g.shape.n q + i) (half_at g.shape.n (q / 2) + j) (half_at g.shape.n (q / 4) + k)))))
+      (in_block g.shape.n b (half_at g.shape.n q + i) (half_at g.shape.n (q / 2) + j) (half_at g.shape.n (q / 4) + k)))))
 
 -- an octant that was set to the sums of a child that holds views holds views
 abbrev pub EdgeOctantsAreSummed : Type 0
