@@ -76,7 +76,7 @@ module _ (names : VariableNames) (w : WorldState) (outs : List ℤ) (marks : Mar
       pub advect_is : mesh_of names new (set outs var out) marks ≡ advect now var (three speeds)
       unfolding mesh_of
       advect_is =
-          mesh_shown names new (set outs var out) marks (advect now var (three speeds)) steps.3 advect_valid refl laid.edge
+          mesh_shown names new (set outs var out) marks (advect now var (three speeds)) steps.3 advect_valid refl
           (outs_set now var speeds valid named outs out laid.flowed (λ u. refl) steps.1)
           (λ b. ap (λ (t : Told). refine_of t.grid marks b) told) (λ b. ap (λ (t : Told). derefine_of t.grid marks b) told)
 

@@ -33,10 +33,10 @@ use Rattle.mesh_model.proofs.RunLemmas.RunValid.{keeps_validity}
 use Rattle.flux_conserve.specs.FaceArrays as arrays
 use Rattle.flux_conserve.specs.Jumps.{face_name}
 use Rattle.flux_conserve.proofs.Fields.{by_spot, view_jumped}
-use Rattle.rank_world.specs.Holding.{IsLeafNode, LeavesHoldFaces}
+use Rattle.rank_world.specs.Holding.{IsLeafNode, LeavesHoldFaces, OnlyAxes}
 use Rattle.amr_engine.specs.EngineMesh.{IsLaidOut, mesh_of}
-use Rattle.amr_engine.specs.Facing.{OnlyFaces}
-use Rattle.amr_engine.specs.Setting.{IsFaceSet, IsPlace, name_at, number_of, with_face}
+
+use Rattle.staggered.specs.Setting.{IsFaceSet, IsPlace, name_at, number_of, with_face}
 use Rattle.amr_engine.specs.Stopping.{MayStop, stopped_by}
 use Rattle.amr_engine.specs.declared.cause.Cause.TheVariants.{Place}
 use Rattle.amr_engine.proofs.FacesMade.{faces_laid, faces_made}
@@ -106,7 +106,7 @@ module _ (names : VariableNames) (w : WorldState) (outs : List ℤ) (marks : Mar
     unfolding refusal mesh_of
     put_refused none = ap (λ leaf. or_else leaf (refusals.Place (spots.Face at))) none
 
-    module _ (mid : WorldState) (raw : ℤ) (kept : raw ≡ value) (leaf_one : (is_canonical w.told.grid.shape at && is_leaf_face w.told.grid at) ≡ true) (first : OnlyFaces w mid) (is : IsFaceSet w mid at raw) where
+    module _ (mid : WorldState) (raw : ℤ) (kept : raw ≡ value) (leaf_one : (is_canonical w.told.grid.shape at && is_leaf_face w.told.grid at) ≡ true) (first : OnlyAxes Face w mid) (is : IsFaceSet w mid at raw) where
       pub put_within : arrays.FacesWithin false mid (2 ^ 56)
       unfolding mesh_of
       put_within node a leaf = record {
@@ -128,8 +128,8 @@ module _ (names : VariableNames) (w : WorldState) (outs : List ℤ) (marks : Mar
       put_valid = keeps_validity now (FaceSet at value) valid fits put_allowed
 
       -- the world in which the copies agree
-      module _ (new : WorldState) (second : arrays.OnlyFaces false mid new) (holds : LeavesHoldFaces new (with_face now.faces at raw)) where
-        only : OnlyFaces w new
+      module _ (new : WorldState) (second : arrays.OnlyAxes Face false mid new) (holds : LeavesHoldFaces new (with_face now.faces at raw)) where
+        only : OnlyAxes Face w new
         only = record { told = second.told ∙ first.told; others = λ u node none. second.others u node (λ a same leaf. none a same) ∙ first.others u node none }
 
         field_is : with_face now.faces at raw ≡ set_field

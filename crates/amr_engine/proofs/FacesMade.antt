@@ -7,7 +7,7 @@ use Rattle.block_tree.specs.Marked.{derefine_of, refine_of}
 use Rattle.block_tree.specs.declared.marks.Marks.{Marks}
 use Rattle.mesh_model.specs.declared.fields.spot.Spot.TheVariants as spots
 use Rattle.mesh_model.specs.declared.fields.values.Group.TheVariants as groups
-use Rattle.mesh_model.specs.declared.fields.values.Var.TheVariants.{Cell}
+use Rattle.mesh_model.specs.declared.fields.values.Var.TheVariants.{Cell, Edge}
 use Rattle.mesh_model.specs.declared.language.script.Command.TheVariants.{Uniform}
 use Rattle.mesh_model.specs.declared.run.stops.Refusal.TheVariants as refusals
 use Rattle.mesh_model.specs.Fields.Advect.{three}
@@ -21,10 +21,11 @@ use Rattle.mesh_model.specs.Language.Commands.{AreThree}
 use Rattle.mesh_model.specs.Run.Stops.{refusal}
 use Rattle.mesh_model.specs.Tree.Kinds.{is_leaf_face}
 use Rattle.mesh_model.proofs.RunLemmas.RunValid.{keeps_validity}
-use Rattle.rank_world.specs.Holding.{IsLeafNode, IsOfMesh, LeavesHoldFaces}
+use Rattle.rank_world.specs.Holding.{IsLeafNode, IsOfMesh, LeavesHoldFaces, OnlyAxes}
 use Rattle.rank_world.specs.declared.faces.FaceAbove.{FaceAbove}
+use Rattle.rank_world.proofs.Meshes.{edges_same}
 use Rattle.amr_engine.specs.EngineMesh.{IsLaidOut, mesh_of}
-use Rattle.amr_engine.specs.Facing.{OnlyFaces, face_told, walked_above}
+use Rattle.staggered.specs.Facing.{face_told, walked_above}
 use Rattle.amr_engine.specs.Stopping.{MayStop, cause_of_faces, stopped_by}
 use Rattle.amr_engine.proofs.FaceStops.{faces_excess}
 use Rattle.amr_engine.proofs.Filled.{holds_same}
@@ -50,7 +51,7 @@ module _ (names : VariableNames) (w : WorldState) (outs : List ℤ) (marks : Mar
   now = mesh_of names w outs marks
 
   -- a world of which the faces alone were set is that of the mesh with these numbers on its faces
-  module _ (new : WorldState) (k : FaceAt → ℤ) (only : OnlyFaces w new) (holds : LeavesHoldFaces new k) where
+  module _ (new : WorldState) (k : FaceAt → ℤ) (only : OnlyAxes Face w new) (holds : LeavesHoldFaces new k) where
     pub faces_world : IsOfMesh new (with_faces now k)
     faces_world =
         let of = of_now names w outs marks laid valid in
@@ -63,13 +64,14 @@ module _ (names : VariableNames) (w : WorldState) (outs : List ℤ) (marks : Mar
               holds_same w new v node (now.cells v) only.told (only.others (Cell v) node (λ a is. absurd cc))
               (of.contents v (subst (λ (t : Told). v < t.counts.cells) only.told below) node (subst (λ (t : Told). IsLeafNode t.grid node) only.told leaf));
           on_faces = λ some. holds;
+          on_edges = λ some. edges_same w new now.edges only.told (λ x node leaf. only.others (Edge x) node (λ a is. absurd cc)) (of.on_edges (subst (λ (t : Told). 0 < t.counts.edges) only.told some));
         }
 
     module _ (after : ValidMesh (with_faces now k)) where
       pub faces_made : mesh_of names new outs marks ≡ with_faces now k
       unfolding mesh_of
       faces_made =
-          mesh_shown names new outs marks (with_faces now k) faces_world after refl laid.edge (λ v. refl)
+          mesh_shown names new outs marks (with_faces now k) faces_world after refl (λ v. refl)
           (λ b. ap (λ (t : Told). refine_of t.grid marks b) only.told) (λ b. ap (λ (t : Told). derefine_of t.grid marks b) only.told)
 
       pub faces_laid : IsLaidOut names new outs marks
@@ -99,7 +101,7 @@ module _ (names : VariableNames) (w : WorldState) (outs : List ℤ) (marks : Mar
         ∙ some_told (with_faces now even) even (find (λ f. is_leaf_face w.told.grid f && is_above (2 ^ 40) (even f)) (faces_walked w.told.grid)) found refl is
 
     -- the mesh after it, whose world it is
-    module _ (new : WorldState) (only : OnlyFaces w new) (holds : LeavesHoldFaces new even) (none : walked_above w.told.grid even ≡ None) where
+    module _ (new : WorldState) (only : OnlyAxes Face w new) (holds : LeavesHoldFaces new even) (none : walked_above w.told.grid even ≡ None) where
       uniform_after : ValidMesh (with_faces now even)
       unfolding mesh_of
       uniform_after = uniform_valid (uniform_allowed none)
@@ -112,7 +114,7 @@ module _ (names : VariableNames) (w : WorldState) (outs : List ℤ) (marks : Mar
       uniform_laid = faces_laid new even only holds uniform_after
 
     -- whichever it was, the engine's mesh is a valid one
-    pub uniform_kept : (new : WorldState) (r : Result (Unit {0}) FaceAbove) → OnlyFaces w new → OnOk r (walked_above w.told.grid even ≡ None) → OnOk r (LeavesHoldFaces new even) → IfErr r (λ above. new ≡ w) →
+    pub uniform_kept : (new : WorldState) (r : Result (Unit {0}) FaceAbove) → OnlyAxes Face w new → OnOk r (walked_above w.told.grid even ≡ None) → OnOk r (LeavesHoldFaces new even) → IfErr r (λ above. new ≡ w) →
         IsLaidOut names new outs marks × ValidMesh (mesh_of names new outs marks)
     uniform_kept new (Ok done) only none holds stays = (
       uniform_laid new only holds none,

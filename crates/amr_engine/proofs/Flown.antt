@@ -35,7 +35,7 @@ use Rattle.step_advect.specs.Lifts.{HoldsBeside, IsFlowOf}
 use Rattle.step_advect.proofs.Donors.{places_inside}
 use Rattle.step_advect.proofs.Lifted.{fluxes_of_leaves}
 use Rattle.flux_conserve.specs.Work.{IsJumpNode, OnlyWorkFaces, WorkHolds, WorkWithin, work_array}
-use Rattle.amr_engine.specs.Blocks.{IsSmallBlock}
+use Rattle.staggered.specs.Blocks.{IsSmallBlock}
 use Rattle.amr_engine.specs.Flowing.{AreFlowed, AreFluxes, HasFluxes, IsReady}
 
 -- the coordinate of a block on an axis

@@ -7,12 +7,12 @@ use Rattle.block_tree.specs.Numbered.{block_at}
 use Rattle.flux_conserve.specs.Work.{OnlyWorkFaces}
 use Rattle.guard_fill.specs.Filling.{OnlyGuards}
 use Rattle.guard_fill.specs.Restricting.{OnlyParents}
-use Rattle.mesh_model.specs.declared.fields.values.Var.TheVariants.{Cell, Face}
+use Rattle.mesh_model.specs.declared.fields.values.Var.TheVariants.{Cell, Edge, Face}
 use Rattle.mesh_model.specs.Fields.ArrayPlaces.{HoldsViews}
 use Rattle.mesh_model.specs.Fields.Octants.{cells_of}
 use Rattle.mesh_model.specs.Fields.Ranks.{Told, WorldState}
-use Rattle.rank_world.specs.Holding.{IsLeafNode, NodeHolds, OnlyCells, cell_array, face_array}
-use Rattle.rank_world.proofs.Meshes.{faces_same}
+use Rattle.rank_world.specs.Holding.{IsLeafNode, NodeHolds, OnlyCells, cell_array, edge_array, face_array}
+use Rattle.rank_world.proofs.Meshes.{edges_same, faces_same}
 use Rattle.amr_engine.specs.Settling.{OnlyCellsAndWork, OnlyWorkCells}
 use Rattle.amr_engine.specs.Stepping.{KeepsMeshes}
 use Rattle.amr_engine.proofs.Filled.{holds_same}
@@ -21,11 +21,12 @@ use Rattle.amr_engine.proofs.Filled.{holds_same}
 abbrev pub KeepsLeaves : WorldState → WorldState → Type 0
 KeepsLeaves old new = (v node : ℕ) (content : CellAt → ℤ) → IsLeafNode old.told.grid node → NodeHolds old v content node → NodeHolds new v content node
 
--- and all numbers on faces are what they were
-abbrev pub KeepsFaces : WorldState → WorldState → Type 0
-KeepsFaces old new = (x : Axis) (node : ℕ) → face_array new x node ≡ face_array old x node
+-- and all numbers on faces and edges are what they were
+pub record KeepsFields (old new : WorldState) : Type 0 where
+  pub on_faces : (x : Axis) (node : ℕ) → face_array new x node ≡ face_array old x node
+  pub on_edges : (x : Axis) (node : ℕ) → edge_array false new x node ≡ edge_array false old x node
 
-pub meshes_kept : (old new : WorldState) → new.told ≡ old.told → KeepsLeaves old new → KeepsFaces old new → KeepsMeshes old new
+pub meshes_kept : (old new : WorldState) → new.told ≡ old.told → KeepsLeaves old new → KeepsFields old new → KeepsMeshes old new
 meshes_kept old new told keeps same m of = record {
   grid = ap (λ (t : Told). t.grid) told ∙ of.grid;
   cells = ap (λ (t : Told). t.counts.cells) told ∙ of.cells;
@@ -34,7 +35,8 @@ meshes_kept old new told keeps same m of = record {
   contents = λ v below node leaf.
       let there : IsLeafNode old.told.grid node = subst (λ (t : Told). IsLeafNode t.grid node) told leaf in
       keeps v node (m.cells v) there (of.contents v (subst (λ (t : Told). v < t.counts.cells) told below) node there);
-  on_faces = λ some. faces_same old new m.faces told (λ x node leaf. same x node) (of.on_faces (subst (λ (t : Told). 0 < t.counts.faces) told some));
+  on_faces = λ some. faces_same old new m.faces told (λ x node leaf. same.on_faces x node) (of.on_faces (subst (λ (t : Told). 0 < t.counts.faces) told some));
+  on_edges = λ some. edges_same old new m.edges told (λ x node leaf. same.on_edges x node) (of.on_edges (subst (λ (t : Told). 0 < t.counts.edges) told some));
 }
 
 same_variable : (v u : ℕ) → Cell u ≡ Cell v → u ≡ v
@@ -78,15 +80,27 @@ faces_kept old new only u node content leaf holds = holds_same old new u node co
 pub work_kept : (old new : WorldState) → OnlyWorkCells old new → KeepsLeaves old new
 work_kept old new only u node content leaf holds = holds_same old new u node content only.told (only.others (Cell u) node (λ e. absurd (cc))) holds
 
--- where the numbers of cells alone change, or those of work arrays, all numbers on faces are what they were
-pub cells_keep_faces : (old new : WorldState) (v : ℕ) → OnlyCells old new v → KeepsFaces old new
-cells_keep_faces old new v only x node = only.others (Face x) node (λ is. absurd cc)
+-- where the numbers of cells alone change, or those of work arrays, all numbers on faces and edges are what they were
+pub cells_keep_fields : (old new : WorldState) (v : ℕ) → OnlyCells old new v → KeepsFields old new
+cells_keep_fields old new v only = record {
+  on_faces = λ x node. only.others (Face x) node (λ is. absurd cc);
+  on_edges = λ x node. only.others (Edge x) node (λ is. absurd cc);
+}
 
-pub taken_keeps_faces : (old new : WorldState) (v : ℕ) → OnlyCellsAndWork old new v → KeepsFaces old new
-taken_keeps_faces old new v only x node = only.others (Face x) node (λ is. absurd cc) (λ is. absurd cc)
+pub taken_keeps_fields : (old new : WorldState) (v : ℕ) → OnlyCellsAndWork old new v → KeepsFields old new
+taken_keeps_fields old new v only = record {
+  on_faces = λ x node. only.others (Face x) node (λ is. absurd cc) (λ is. absurd cc);
+  on_edges = λ x node. only.others (Edge x) node (λ is. absurd cc) (λ is. absurd cc);
+}
 
-pub work_keeps_faces : (old new : WorldState) → OnlyWorkCells old new → KeepsFaces old new
-work_keeps_faces old new only x node = only.others (Face x) node (λ is. absurd cc)
+pub work_keeps_fields : (old new : WorldState) → OnlyWorkCells old new → KeepsFields old new
+work_keeps_fields old new only = record {
+  on_faces = λ x node. only.others (Face x) node (λ is. absurd cc);
+  on_edges = λ x node. only.others (Edge x) node (λ is. absurd cc);
+}
 
-pub work_faces_keep_faces : (old new : WorldState) → OnlyWorkFaces old new → KeepsFaces old new
-work_faces_keep_faces old new only x node = only.others (Face x) node (λ a is leaf. absurd cc)
+pub work_faces_keep_fields : (old new : WorldState) → OnlyWorkFaces old new → KeepsFields old new
+work_faces_keep_fields old new only = record {
+  on_faces = λ x node. only.others (Face x) node (λ a is leaf. absurd cc);
+  on_edges = λ x node. only.others (Edge x) node (λ a is leaf. absurd cc);
+}

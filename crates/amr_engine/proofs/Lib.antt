@@ -1,5 +1,4 @@
 pub mod Anys
-pub mod Blocks
 pub mod Machine
 pub mod Rows
 pub mod Filled
@@ -27,9 +26,5 @@ pub mod Stepped
 pub mod Advanced
 pub mod Balanced
 pub mod FacesMade
-pub mod Uniform
-pub mod FacesFound
-pub mod UniformSet
 pub mod Netted
-pub mod FaceSet
 pub mod FacePut

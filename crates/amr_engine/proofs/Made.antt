@@ -8,7 +8,7 @@ use Rattle.amr_num.specs.Numbers.{Within}
 use Rattle.amr_num.specs.declared.BlockAt.{BlockAt}
 use Rattle.block_tree.specs.Marked.{IsMarksOf, IsUnmarked, derefine_of, refine_of, room}
 use Rattle.block_tree.specs.declared.marks.Marks.{Marks}
-use Rattle.mesh_model.specs.declared.fields.values.Var.TheVariants.{Cell, Face}
+use Rattle.mesh_model.specs.declared.fields.values.Var.TheVariants.{Cell, Edge, Face}
 use Rattle.mesh_model.specs.declared.language.script.Command.{Command}
 use Rattle.mesh_model.specs.declared.language.script.Command.TheVariants.{DerefineWhere, FillAll, FillBox, MarkDerefine, MarkRefine, RefineWhere, Regrid}
 use Rattle.mesh_model.specs.declared.run.stops.Refusal.TheVariants as refusals
@@ -56,7 +56,7 @@ use Rattle.amr_engine.specs.declared.region.Fill.{Fill}
 use Rattle.amr_engine.specs.declared.region.Region.TheVariants as regions
 use Rattle.amr_engine.proofs.Filled.{holds_same}
 use Rattle.amr_engine.proofs.Shown.{laid_shown, leaves_on, mesh_shown, own_mesh}
-use Rattle.rank_world.proofs.Meshes.{faces_same}
+use Rattle.rank_world.proofs.Meshes.{edges_same, faces_same}
 
 same_cell : (v w : ℕ) → Cell v ≡ Cell w → v ≡ w
 same_cell v w e = cc
@@ -102,7 +102,7 @@ module _ (names : VariableNames) (w : WorldState) (outs : List ℤ) (marks : Mar
   -- a world of another mesh with these variables
   pub laid_after : (new : WorldState) (flown : List ℤ) (m : Mesh) → new.told ≡ w.told → IsOfMesh new m → ValidMesh m → names ≡ m.names → length flown ≡ length names.cells → IsLaidOut names new flown marks
   laid_after new flown m told of is named flowed =
-      laid_shown names new flown marks m of is named (ap (λ (t : Told). t.counts.edges) told ∙ laid.edges) laid.edge flowed (laid.room ∙ sym (ap (λ (t : Told). most_nodes t.grid.shape) told))
+      laid_shown names new flown marks m of is named flowed (laid.room ∙ sym (ap (λ (t : Told). most_nodes t.grid.shape) told))
 
   -- a world of the same mesh
   pub laid_same : (new : WorldState) → new.told ≡ w.told → IsOfMesh new now → IsLaidOut names new outs marks
@@ -112,7 +112,7 @@ module _ (names : VariableNames) (w : WorldState) (outs : List ℤ) (marks : Mar
   pub same_mesh : (new : WorldState) → new.told ≡ w.told → IsOfMesh new now → mesh_of names new outs marks ≡ now
   unfolding mesh_of
   same_mesh new told of =
-      mesh_shown names new outs marks now of valid refl laid.edge (λ u. refl)
+      mesh_shown names new outs marks now of valid refl (λ u. refl)
       (λ b. ap (λ (t : Told). refine_of t.grid marks b) told) (λ b. ap (λ (t : Told). derefine_of t.grid marks b) told)
 
   -- a variable is filled
@@ -137,9 +137,10 @@ module _ (names : VariableNames) (w : WorldState) (outs : List ℤ) (marks : Mar
       grid = ap (λ (t : Told). t.grid) only.told ∙ sym grid_now;
       cells = ap (λ (t : Told). t.counts.cells) only.told ∙ laid.cells ∙ sym (ap (λ (n : VariableNames). length n.cells) names_now);
       faces = subst (λ (t : Told). (t.counts.faces ≡ 0) ↔ (now.names.face ≡ None)) (sym only.told) of_now.faces;
-      edges = (λ zero. ap (λ (n : VariableNames). n.edge) names_now ∙ laid.edge, λ none. ap (λ (t : Told). t.counts.edges) only.told ∙ laid.edges);
+      edges = subst (λ (t : Told). (t.counts.edges ≡ 0) ↔ (now.names.edge ≡ None)) (sym only.told) of_now.edges;
       contents = λ v below. filled_holds v (subst (λ (t : Told). v < t.counts.cells) only.told below);
       on_faces = λ some. faces_same w new now.faces only.told (λ x node leaf. only.others (Face x) node (λ is. absurd cc)) (of_now.on_faces (subst (λ (t : Told). 0 < t.counts.faces) only.told some));
+      on_edges = λ some. edges_same w new now.edges only.told (λ x node leaf. only.others (Edge x) node (λ is. absurd cc)) (of_now.on_edges (subst (λ (t : Told). 0 < t.counts.edges) only.told some));
     }
 
     pub filled_laid : ValidMesh (filled now var fill) → IsLaidOut names new outs marks
@@ -156,7 +157,7 @@ module _ (names : VariableNames) (w : WorldState) (outs : List ℤ) (marks : Mar
     pub filled_is : ValidMesh (filled now var fill) → mesh_of names new outs marks ≡ filled now var fill
     unfolding mesh_of
     filled_is after =
-        mesh_shown names new outs marks (filled now var fill) filled_world after refl laid.edge (λ v. refl)
+        mesh_shown names new outs marks (filled now var fill) filled_world after refl (λ v. refl)
         (λ b. ap (λ (t : Told). refine_of t.grid marks b) only.told) (λ b. ap (λ (t : Told). derefine_of t.grid marks b) only.told)
 
   -- ---- regrid
@@ -201,12 +202,12 @@ module _ (names : VariableNames) (w : WorldState) (outs : List ℤ) (marks : Mar
     pub regrid_laid : room other ≡ room marks → IsLaidOut names new outs other
     unfolding mesh_of
     regrid_laid space =
-        laid_shown names new outs other (regrid now) done.world regrid_valid refl (done.world.edges.1 laid.edge) laid.edge laid.flowed (space ∙ laid.room ∙ sym (ap (λ h. most_nodes h.shape) done.world.grid))
+        laid_shown names new outs other (regrid now) done.world regrid_valid refl laid.flowed (space ∙ laid.room ∙ sym (ap (λ h. most_nodes h.shape) done.world.grid))
 
     pub regrid_is : mesh_of names new outs other ≡ regrid now
     unfolding mesh_of
     regrid_is =
-        mesh_shown names new outs other (regrid now) done.world regrid_valid refl laid.edge (λ v. refl) (λ b. none.refine b) (λ b. none.derefine b)
+        mesh_shown names new outs other (regrid now) done.world regrid_valid refl (λ v. refl) (λ b. none.refine b) (λ b. none.derefine b)
 
   -- ---- marks
 

@@ -30,7 +30,7 @@ use Rattle.rank_world.specs.Exchanging.{IsWorldExchanged}
 use Rattle.rank_world.specs.Holding.{IsLeafNode, LeavesHold, cell_array}
 use Rattle.flux_conserve.specs.Work.{IsJumpNode, work_array}
 use Rattle.guard_fill.specs.Filling.{HoldsSides, LeavesSided}
-use Rattle.regrid_move.proofs.Excess.{found_filtered}
+use Rattle.rank_world.proofs.Walked.{found_filtered}
 use Rattle.amr_engine.specs.Flowing.{IsReady}
 use Rattle.amr_engine.specs.Settling.{AreFluxed, HoldsContents, IsRefused, IsSettled, MaySettle, OnlyCellsAndWork, OnlyWorkCells, WorkCellsHold, WorkNodeHolds, above_below, lost, node_above, work_cells}
 use Rattle.amr_engine.specs.Totals.{node_sum}

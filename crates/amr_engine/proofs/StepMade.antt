@@ -16,8 +16,8 @@ use Rattle.amr_engine.specs.Settling.{AreFluxed, OnlyCellsAndWork, OnlyWorkCells
 use Rattle.amr_engine.specs.Stepping.{KeepsMeshes, Steps, content_after, first_above}
 use Rattle.amr_engine.specs.declared.hindrance.Hindrance.{Hindrance}
 use Rattle.amr_engine.specs.declared.hindrance.Hindrance.TheVariants.{Content, FlowedOut, TooFast}
-use Rattle.amr_engine.proofs.Kept.{meshes_kept, others_taken, taken_keeps_faces, work_keeps_faces, work_kept}
-use Rattle.rank_world.proofs.Meshes.{faces_same}
+use Rattle.amr_engine.proofs.Kept.{meshes_kept, others_taken, taken_keeps_fields, work_keeps_fields, work_kept}
+use Rattle.rank_world.proofs.Meshes.{edges_same, faces_same}
 use Rattle.amr_engine.proofs.Machine.{kept_128, wide}
 
 -- what had flowed out and what flows out, as the machine adds them
@@ -61,7 +61,7 @@ module _ (old blown : WorldState) (v : ℕ) (speeds : List ℤ) (m : Mesh) (of :
   module _ (settled : WorldState) (work : OnlyWorkCells blown settled) where
     -- contents stay until they are taken over
     pub still_of : IsOfMesh settled m
-    still_of = meshes_kept blown settled work.told (work_kept blown settled work) (work_keeps_faces blown settled work) m (meshes m of)
+    still_of = meshes_kept blown settled work.told (work_kept blown settled work) (work_keeps_fields blown settled work) m (meshes m of)
 
     module _ (taken : WorldState) (only : OnlyCellsAndWork settled taken v) (made : WorkCellsHold settled (advected blown.told.grid (m.cells v) (three speeds)))
         (holds : (content : CellAt → ℤ) → WorkCellsHold settled content → LeavesHold taken v content) where
@@ -84,7 +84,8 @@ module _ (old blown : WorldState) (v : ℕ) (speeds : List ℤ) (m : Mesh) (of :
         faces = (λ zero. still_of.faces.0 (sym (ap (λ (t : Told). t.counts.faces) only.told) ∙ zero), λ none. ap (λ (t : Told). t.counts.faces) only.told ∙ still_of.faces.1 none);
         edges = (λ zero. still_of.edges.0 (sym (ap (λ (t : Told). t.counts.edges) only.told) ∙ zero), λ none. ap (λ (t : Told). t.counts.edges) only.told ∙ still_of.edges.1 none);
         contents = new_holds;
-        on_faces = λ some. faces_same settled taken m.faces only.told (λ x node leaf. taken_keeps_faces settled taken v only x node) (still_of.on_faces (subst (λ (t : Told). 0 < t.counts.faces) only.told some));
+        on_faces = λ some. faces_same settled taken m.faces only.told (λ x node leaf. (taken_keeps_fields settled taken v only).on_faces x node) (still_of.on_faces (subst (λ (t : Told). 0 < t.counts.faces) only.told some));
+        on_edges = λ some. edges_same settled taken m.edges only.told (λ x node leaf. (taken_keeps_fields settled taken v only).on_edges x node) (still_of.on_edges (subst (λ (t : Told). 0 < t.counts.edges) only.told some));
       }
 
 -- a step that was hindered leaves the mesh

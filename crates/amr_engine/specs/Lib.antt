@@ -1,4 +1,3 @@
-pub mod Blocks
 pub mod Regions
 pub mod Filling
 pub mod Totals
@@ -8,8 +7,6 @@ pub mod Plain
 pub mod Stopping
 pub mod Built
 pub mod Flowing
-pub mod Facing
 pub mod Netting
-pub mod Setting
 pub mod Settling
 pub mod Stepping

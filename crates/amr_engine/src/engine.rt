@@ -2,12 +2,12 @@
 
 use crate::advection::step;
 use crate::cause::{Cause, Stop};
-use crate::facing::set_uniform;
+
 use crate::filling::fill_leaves;
 use crate::marking::{Where, mark_where};
 use crate::netting::net_fluxes;
 use crate::region::{CellBox, Fill, Region};
-use crate::setting::{NoFace, set_face};
+use staggered::{NoFace, set_face, set_uniform};
 use crate::totals::total;
 use amr_num::{BlockAt, FaceAt, OutOfMemory};
 use amr_report::{
@@ -78,6 +78,16 @@ fn face_variables(names: &Names) -> u32
     }
 }
 
+/// How many edge variables are declared: none or one.
+fn edge_variables(names: &Names) -> u32
+    ensures any { (result ≡ 0) ↔ (names.now.edge ≡ None) }
+{
+    match names.edge() {
+        Some(_) => 1,
+        None => 0,
+    }
+}
+
 impl<const N: usize, const G: usize> Engine<N, G> {
     ghost use Rattle.amr_engine.specs.Built.{IsBuiltLine, has_guards, is_built_command};
     ghost use Rattle.mesh_model.specs.Run.Runs.{MakesBalance};
@@ -102,7 +112,6 @@ impl<const N: usize, const G: usize> Engine<N, G> {
     pub fn new(alloc: Global, declared: Declared) -> Result<Engine<N, G>, OutOfMemory>
         requires shape { IsShape declared.shape }
         requires sizes { IsSized N G declared.shape }
-        requires edge { declared.names.edge ≡ None }
         requires few { length declared.names.cells ≤ 4 }
         ensures mesh { IfOk result (λ engine. plain engine ≡ start_mesh declared.shape declared.names) }
         ensures declared { IfOk result (λ engine. declared_of engine ≡ declared) }
@@ -110,10 +119,11 @@ impl<const N: usize, const G: usize> Engine<N, G> {
         let Declared { shape, names } = declared;
         let variables = names.cells();
         let faces = face_variables(&names);
+        let edges = edge_variables(&names);
         let layout = Layout {
             cells: variables,
             faces,
-            edges: 0,
+            edges,
         };
         let world = World::new(alloc, shape, layout)?;
         let marks = Marks::empty(alloc, world.tree())?;

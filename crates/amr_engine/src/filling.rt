@@ -1,6 +1,6 @@
 //! Fills of a cell variable.
 
-ghost use Rattle.amr_engine.specs.Blocks.{IsSmallBlock};
+ghost use Rattle.staggered.specs.Blocks.{IsSmallBlock};
 ghost use Rattle.amr_engine.specs.Filling.{AreLeavesFilled, IsFilled, IsFilledRow, filled_cell};
 ghost use Rattle.amr_engine.specs.Regions.{IsRegion, covers as covered};
 ghost use Rattle.amr_num.specs.Numbers.{Within, at};
@@ -14,7 +14,7 @@ ghost use Rattle.rank_world.specs.Holding.{OnlyCells};
 ghost use Rattle.rank_world.specs.Writing.{IsLeafArray};
 ghost use Rattle.std.specs.Prelude.{◌≡◌, ℕ, ◌+◌, ◌*◌, ◌/◌, ◌%◌, ◌<◌, ◌≤◌, ◌^◌, length, if◌then◌else◌};
 
-use crate::cells::cell_in;
+use staggered::cells::cell_in;
 use crate::region::{Fill, covers};
 use amr_num::BlockAt;
 use block_store::{Extents, place};

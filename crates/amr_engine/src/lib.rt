@@ -4,9 +4,7 @@
 mod advection;
 pub mod built;
 pub mod cause;
-mod cells;
 pub mod engine;
-pub mod facing;
 mod filling;
 mod flowing;
 mod hindrance;
@@ -14,7 +12,6 @@ pub mod laws;
 mod marking;
 pub mod netting;
 mod region;
-pub mod setting;
 mod settling;
 mod totals;
 

@@ -3,7 +3,7 @@
 ghost use Rattle.amr_num.specs.Numbers.{Within, number_range};
 ghost use Rattle.amr_num.specs.declared.Axis.TheVariants.{X, Y, Z};
 ghost use Rattle.amr_num.specs.declared.CellAt.{CellAt as Cells};
-ghost use Rattle.amr_engine.specs.Blocks.{IsSmallBlock};
+ghost use Rattle.staggered.specs.Blocks.{IsSmallBlock};
 ghost use Rattle.amr_engine.specs.Flowing.{AreGuarded, IsReady};
 ghost use Rattle.amr_engine.specs.Settling.{AreFluxed, AreStepFaces, IsLost, IsRefused, IsSettled, IsStepped, MaySettle, OnlyCellsAndWork, OnlyWorkCells, WorkCellsHold, flows_at, node_above, work_cells};
 ghost use Rattle.block_tree.specs.GridOf.{grid_of};
@@ -26,7 +26,7 @@ ghost use Rattle.std.specs.Prelude.{◌≡◌, ◌<◌, ◌≤◌, ◌^◌, ◌&
 ghost use Rattle.step_advect.specs.Applied.{AreInRange, IsApplied, first_out, flows_in, left_at, out_through};
 ghost use Rattle.step_advect.specs.Lifts.{AreOuterSides, is_at_high_side, is_at_low_side};
 
-use crate::cells::cell_in;
+use staggered::cells::cell_in;
 use crate::flowing::flux_along;
 use crate::hindrance::Above;
 use amr_num::{Axis, BlockAt};

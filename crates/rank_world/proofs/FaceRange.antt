@@ -30,7 +30,7 @@ use Rattle.block_store.specs.declared.above.Above.{Above}
 use Rattle.block_store.specs.declared.above.CountedFaces.{CountedFaces}
 use Rattle.block_tree.specs.SideFaces.{face_name, side_position}
 use Rattle.block_tree.proofs.SideFaces.{calm_face, calm_side, split_face}
-use Rattle.rank_world.specs.FaceRange.{CountLeafFaces, HasAxis, axis_above, face_above_at}
+use Rattle.rank_world.specs.FaceRange.{CountLeafFaces, HasAxis, axis_above, face_above_at, told_face}
 use Rattle.rank_world.specs.declared.faces.FaceAbove.{FaceAbove}
 use Rattle.rank_world.proofs.FaceBlocks.{leaf_face_seen}
 
@@ -71,10 +71,6 @@ leaf_or_split g f seen t is = elim (cases_Bool (is_leaf_face g f)) [
     | inr leaf ↦ absurd cc
   ]
 ]
-
--- what is told of a number that is found
-abbrev pub told_face : Grid → BlockAt → Axis → Above → FaceAbove
-told_face g b a found = record { face = face_of a (canonical_on g.shape a (in_block g.shape.n b found.i found.j found.k)); value = found.value }
 
 module _ (g : Grid) (valid : Valid g) (b : BlockAt) (inside : InDomain g.shape b) (leaf : is_leaf_block g b ≡ true) (whole : is_split_block g b ≡ false) (f : CountedFaces) (counts : CountLeafFaces g b f) where
   abbrev n : ℕ
@@ -144,17 +140,17 @@ told_if f false u found = refl
 -- the first that is found among a leaf's faces is the first leaf face out of range, where its numbers are those of the field
 pub first_is : (g : Grid) → Valid g → (b : BlockAt) → InDomain g.shape b → is_leaf_block g b ≡ true → is_split_block g b ≡ false → (f : CountedFaces) → CountLeafFaces g b f → (field : FaceAt → ℤ) (numbers : ℕ → ℕ → ℕ → ℤ) →
     HoldsFaceField g field f.axis b numbers →
-    option_map (told_face g b f.axis) (first_in_faces (λ i j k. numbers (g.shape.g + i) (g.shape.g + j) (g.shape.g + k)) g.shape.n f) ≡ axis_above g field b f.axis
+    option_map (told_face g.shape b f.axis) (first_in_faces (λ i j k. numbers (g.shape.g + i) (g.shape.g + j) (g.shape.g + k)) g.shape.n f) ≡ axis_above g field b f.axis
 first_is g valid b inside leaf whole f counts field numbers holds =
     let n = g.shape.n in
     let e = g.shape.g in
     let a = f.axis in
-    places_mapped (told_face g b a) (longer_on a X n) (longer_on a Y n) (longer_on a Z n) (counted_face_at n f (λ i j k. numbers (e + i) (e + j) (e + k)))
-    ∙ places_same (longer_on a X n) (longer_on a Y n) (longer_on a Z n) (λ i j k. option_map (told_face g b a) (counted_face_at n f (λ i j k. numbers (e + i) (e + j) (e + k)) i j k))
+    places_mapped (told_face g.shape b a) (longer_on a X n) (longer_on a Y n) (longer_on a Z n) (counted_face_at n f (λ i j k. numbers (e + i) (e + j) (e + k)))
+    ∙ places_same (longer_on a X n) (longer_on a Y n) (longer_on a Z n) (λ i j k. option_map (told_face g.shape b a) (counted_face_at n f (λ i j k. numbers (e + i) (e + j) (e + k)) i j k))
     (λ i j k. face_above_at g field (face_of a (canonical_on g.shape a (in_block n b i j k))))
     (λ i j k hi hj hk.
     let name = face_of a (canonical_on g.shape a (in_block n b i j k)) in
-    told_if (told_face g b a) (is_counted_face n f i j k) (is_above (2 ^ 40) (numbers (e + i) (e + j) (e + k))) (record { i = i; j = j; k = k; value = numbers (e + i) (e + j) (e + k) })
+    told_if (told_face g.shape b a) (is_counted_face n f i j k) (is_above (2 ^ 40) (numbers (e + i) (e + j) (e + k))) (record { i = i; j = j; k = k; value = numbers (e + i) (e + j) (e + k) })
     ∙ ap₂ (λ t (v : ℤ). if t && is_above (2 ^ 40) v then Some (record { face = name; value = v }) else None) (counts_leaf g valid b inside leaf whole a f.low f.high counts i j k hi hj hk) (holds.at i j k hi hj hk))
 
 -- a place on an axis of a block's faces
@@ -180,18 +176,17 @@ first_sized m e g sized b f xs =
 pub axis_found : (work : Bool) (m e : ℕ) (w : WorldState) (a : Axis) (node : ℕ) → IsFit m e w → Valid w.told.grid → IsLeafNode w.told.grid node → InDomain w.told.grid.shape (block_at w.told.grid node) →
     (f : CountedFaces) → f.axis ≡ a → CountLeafFaces w.told.grid (block_at w.told.grid node) f → (xs : List ℤ) → xs ≡ stored work w a node → (field : FaceAt → ℤ) → HasAxis work w field node a →
     (r : Option Above) → r ≡ first_in_faces (λ i j k. number_at (face_extents m e f.axis) xs (e + i) (e + j) (e + k)) m f →
-    option_map (told_face w.told.grid (block_at w.told.grid node) f.axis) r ≡ axis_above w.told.grid field (block_at w.told.grid node) a
+    option_map (told_face w.told.grid.shape (block_at w.told.grid node) f.axis) r ≡ axis_above w.told.grid field (block_at w.told.grid node) a
 axis_found work m e w a node fit valid leaf inside f same counts xs is field has r found =
     let g = w.told.grid in
     let b = block_at g node in
     let whole : is_split_block g b ≡ false = refuted _ (λ s. let none = split_leaf g valid b s in let here = leaf.leaf in cc) in
     let there : HoldsFaceField g field f.axis b (faces_in g f.axis xs) =
     subst (λ x. HoldsFaceField g field x b (faces_in g x xs)) (sym same) (subst (λ ys. HoldsFaceField g field a b (faces_in g a ys)) (sym is) has) in
-    ap (option_map (told_face g b f.axis)) (found ∙ first_sized m e g fit.sizes b f xs)
+    ap (option_map (told_face g.shape b f.axis)) (found ∙ first_sized m e g fit.sizes b f xs)
     ∙ first_is g valid b inside leaf.leaf whole f counts field (faces_in g f.axis xs) there
     ∙ ap (axis_above g field b) same
 
--- the name of a face in other words
-pub named_as : (s t : Shape) (a x : Axis) (b d : BlockAt) (i j k : ℕ) → s ≡ t → a ≡ x → b ≡ d → face_of a (canonical_on s a (in_block s.n b i j k)) ≡ face_of x (canonical_on t x (in_block t.n d i j k))
-named_as s t a x b d i j k es ea eb =
-    ap (λ (u : Shape). face_of a (canonical_on u a (in_block u.n b i j k))) es ∙ ap₂ (λ y c. face_of y (canonical_on t y (in_block t.n c i j k))) ea eb
+-- what is told of a face in other words
+pub told_as : (s t : Shape) (a x : Axis) (b d : BlockAt) (found : Above) → s ≡ t → a ≡ x → b ≡ d → told_face s b a found ≡ told_face t d x found
+told_as s t a x b d found es ea eb = ap (λ (u : Shape). told_face u b a found) es ∙ ap₂ (λ y c. told_face t c y found) ea eb

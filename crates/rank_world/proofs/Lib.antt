@@ -7,3 +7,5 @@ pub mod FaceBlocks
 pub mod FaceRange
 pub mod Found
 pub mod Exchanged
+pub mod EdgeContents
+pub mod Walked

@@ -5,6 +5,7 @@ use Rattle.amr_num.specs.declared.Axis.{Axis}
 use Rattle.amr_num.specs.declared.Axis.TheVariants.{X, Y, Z}
 use Rattle.amr_num.specs.declared.BlockAt.{BlockAt}
 use Rattle.amr_num.specs.declared.FaceAt.{FaceAt}
+use Rattle.mesh_model.specs.declared.geometry.Shape.{Shape}
 use Rattle.mesh_model.specs.Geometry.Canonical.{canonical_on}
 use Rattle.mesh_model.specs.Geometry.Coordinates.{face_of}
 use Rattle.mesh_model.specs.Geometry.Places.{in_block, longer_on}
@@ -14,6 +15,7 @@ use Rattle.mesh_model.specs.Fields.FinePlaces.{faces_in}
 use Rattle.mesh_model.specs.Fields.Firsts.{first_in_places}
 use Rattle.mesh_model.specs.Fields.RangeWalk.{is_above}
 use Rattle.mesh_model.specs.Fields.Ranks.{WorldState}
+use Rattle.block_store.specs.declared.above.Above.{Above}
 use Rattle.block_store.specs.declared.above.CountedFaces.{CountedFaces}
 use Rattle.block_tree.specs.Beside.{finer_beside}
 use Rattle.block_tree.specs.Numbered.{block_at}
@@ -54,3 +56,7 @@ pub record CountLeafFaces (g : Grid) (b : BlockAt) (f : CountedFaces) : Type 0 w
   pub low_finer : f.low ≡ false → (d : BlockAt) × (finer_beside g f.axis false b ≡ Some d)
   pub high_calm : f.high ≡ true → finer_beside g f.axis true b ≡ None
   pub high_finer : f.high ≡ false → (d : BlockAt) × (finer_beside g f.axis true b ≡ Some d)
+
+-- what is told of a number that is found among a block's faces normal to an axis
+abbrev pub told_face : Shape → BlockAt → Axis → Above → FaceAbove
+told_face s b a found = record { face = face_of a (canonical_on s a (in_block s.n b found.i found.j found.k)); value = found.value }

@@ -13,7 +13,7 @@ ghost use Rattle.mesh_model.specs.Geometry.Coordinates.{face_of};
 ghost use Rattle.mesh_model.specs.Geometry.Limits.{IsShape};
 ghost use Rattle.mesh_model.specs.Geometry.Places.{in_block};
 ghost use Rattle.rank_world.specs.FaceRange as above;
-ghost use Rattle.rank_world.specs.FaceRange.{CountLeafFaces, HasAxes, HasAxis, HasField, HasWorkField};
+ghost use Rattle.rank_world.specs.FaceRange.{CountLeafFaces, HasAxes, HasAxis, HasField, HasWorkField, told_face};
 ghost use Rattle.rank_world.specs.Holding as holding;
 ghost use Rattle.rank_world.specs.Holding.{IsLeafNode};
 ghost use Rattle.std.specs.Prelude.{◌≡◌, ℕ, ◌+◌, ◌*◌, ◌<◌, ◌≤◌, ℤ};
@@ -72,8 +72,22 @@ fn name_of(shape: &Shape, block: BlockAt, axis: Axis, found: Above) -> FaceAt
     canonical_face(shape, axis, numbers)
 }
 
+/// What is told of a number out of range among a block's faces normal to an axis: the face by its canonical name.
+pub fn face_told(shape: &Shape, block: BlockAt, axis: Axis, found: Above) -> FaceAbove
+    requires shape { IsShape shape.now }
+    requires level { block.level ≤ 10 }
+    requires block { (block.x < 8192) × (block.y < 8192) × (block.z < 8192) }
+    requires place { (found.i ≤ shape.now.n) × (found.j ≤ shape.now.n) × (found.k ≤ shape.now.n) }
+    ensures { result ≡ told_face shape.now block axis found }
+{
+    FaceAbove {
+        face: name_of(shape, block, axis, found),
+        value: found.value,
+    }
+}
+
 /// Which faces of a leaf normal to an axis are leaf faces: all but those on a side at which finer leaves stand.
-fn leaf_faces(tree: &Tree, axis: Axis, block: BlockAt) -> CountedFaces
+pub fn leaf_faces(tree: &Tree, axis: Axis, block: BlockAt) -> CountedFaces
     requires { InDomain (grid_of tree.now).shape block }
     ensures axis { result.axis ≡ axis }
     ensures counts { CountLeafFaces (grid_of tree.now) block result }
@@ -101,10 +115,7 @@ fn axis_above<const N: usize, const G: usize>(
     let faces = leaf_faces(tree, axis, block);
     match faces_above(N, G, world.values(face_var(work, axis), node), faces) {
         None => None,
-        Some(found) => Some(FaceAbove {
-            face: name_of(&shape, block, axis, found),
-            value: found.value,
-        }),
+        Some(found) => Some(face_told(&shape, block, axis, found)),
     }
 }
 

@@ -9,7 +9,9 @@ mod rank;
 mod taking;
 mod world;
 
-pub use faces::{FaceAbove, face_var, first_face_above, first_work_face_above};
+pub use faces::{
+    FaceAbove, face_told, face_var, first_face_above, first_work_face_above, leaf_faces,
+};
 pub use known::Known;
 pub use rank::Rank;
 pub use world::World;

@@ -36,23 +36,12 @@ use Rattle.block_tree.proofs.Leaves.{leaves_are}
 use Rattle.rank_world.specs.declared.faces.FaceAbove.{FaceAbove}
 use Rattle.rank_world.specs.FaceRange.{axis_above, face_above_at}
 use Rattle.rank_world.proofs.FaceBlocks.{leaf_face_seen}
+use Rattle.rank_world.proofs.Walked.{first_front, found_filtered, or_nothing}
 use Rattle.regrid_move.specs.FaceMoves.{block_face_stop, face_range, faces_stop, node_face_stop}
 use Rattle.regrid_move.specs.Near.{block_stop, node_stop, variable_stop, view_stop}
 use Rattle.regrid_move.specs.Regrids.{first_moved_excess}
 
 -- ---- the first of some
-
-or_nothing : {A : Type 0} (p : Option A) → option_or p None ≡ p
-or_nothing None = refl
-or_nothing (Some x) = refl
-
-or_first : {A : Type 0} (p q r : Option A) → option_or (option_or p q) r ≡ option_or p (option_or q r)
-or_first None q r = refl
-or_first (Some x) q r = refl
-
-first_front : {A : Type 0} (n : ℕ) (at : ℕ → Option A) → first_below (suc n) at ≡ option_or (at zero) (first_below n (λ k. at (suc k)))
-first_front zero at = sym (or_nothing (at zero))
-first_front (suc n) at = ap (λ p. option_or p (at (suc n))) (first_front n at) ∙ or_first (at zero) (first_below n (λ k. at (suc k))) (at (suc n))
 
 first_all : (a n : ℕ) (at : ℕ → Option RangeStop) → first_of_all at (range_with_len a n) ≡ first_below n (λ k. at (a + k))
 first_all a zero at = refl
@@ -66,19 +55,6 @@ first_all a (suc n) at =
 find_none : {A : Type 0} (p : A → Bool) → ((x : A) → p x ≡ false) → (xs : List A) → find p xs ≡ None
 find_none p none [] = refl
 find_none p none (x ∷ xs) = ap (λ (t : Bool). if t then Some x else find p xs) (none x) ∙ find_none p none xs
-
-one_part : {B : Type 0} (p : B → Bool) (f : BlockAt → List B) (t : Bool) (x : BlockAt) (ys : List BlockAt) →
-    find p (flat_map f (if t then x ∷ ys else ys)) ≡ option_or (if t then find p (f x) else None) (find p (flat_map f ys))
-one_part p f true x ys = find-append p (f x) (flat_map f ys)
-one_part p f false x ys = refl
-
-pub found_filtered : {B : Type 0} (p : B → Bool) (f : BlockAt → List B) (q : BlockAt → Bool) (xs : List BlockAt) →
-    find p (flat_map f (filter q xs)) ≡ first_below (length xs) (λ k. if q (block_in xs k) then find p (f (block_in xs k)) else None)
-found_filtered p f q [] = refl
-found_filtered p f q (x ∷ xs) =
-    one_part p f (q x) x (filter q xs)
-    ∙ ap (λ r. option_or (if q x then find p (f x) else None) r) (found_filtered p f q xs)
-    ∙ sym (first_front (length xs) (λ k. if q (block_in (x ∷ xs) k) then find p (f (block_in (x ∷ xs) k)) else None))
 
 -- ---- the cells
 

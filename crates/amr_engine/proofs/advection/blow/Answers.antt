@@ -5,7 +5,7 @@ use Rattle.mesh_model.specs.Fields.Advect.{flux, leaf_flux, three}
 use Rattle.mesh_model.specs.Fields.Ranks.{Told}
 use Rattle.rank_world.specs.Holding.{IsLeafNode}
 use Rattle.amr_engine.proofs.Flown.{guarded_same}
-use Rattle.amr_engine.proofs.Kept.{cells_keep_faces, faces_kept, guards_kept, meshes_kept, parents_kept, work_faces_keep_faces}
+use Rattle.amr_engine.proofs.Kept.{cells_keep_fields, faces_kept, guards_kept, meshes_kept, parents_kept, work_faces_keep_fields}
 use Rattle.amr_engine.proofs.advection.blow.Goals as goal
 
 pub blow_faces-requires : goal.blow_faces-requires
@@ -40,9 +40,9 @@ returns-clause-meshes g c m of =
     let b = c.restrict_all.new.world in
     let d = c.fill_sides.new.world in
     let f = c.blow_faces.new.world in
-    meshes_kept d f c.blow_faces.ensures.only.told (faces_kept d f c.blow_faces.ensures.only) (work_faces_keep_faces d f c.blow_faces.ensures.only) m
-    (meshes_kept b d c.fill_sides.ensures.only.only.told (guards_kept b d c.args.v c.fill_sides.ensures.only) (cells_keep_faces b d c.args.v c.fill_sides.ensures.only.only) m
-    (meshes_kept a b c.restrict_all.ensures.only.only.told (parents_kept a b c.args.v c.restrict_all.ensures.only) (cells_keep_faces a b c.args.v c.restrict_all.ensures.only.only) m of))
+    meshes_kept d f c.blow_faces.ensures.only.told (faces_kept d f c.blow_faces.ensures.only) (work_faces_keep_fields d f c.blow_faces.ensures.only) m
+    (meshes_kept b d c.fill_sides.ensures.only.only.told (guards_kept b d c.args.v c.fill_sides.ensures.only) (cells_keep_fields b d c.args.v c.fill_sides.ensures.only.only) m
+    (meshes_kept a b c.restrict_all.ensures.only.only.told (parents_kept a b c.args.v c.restrict_all.ensures.only) (cells_keep_fields a b c.args.v c.restrict_all.ensures.only.only) m of))
 
 pub returns-clause-flows : goal.returns-clause-flows
 returns-clause-flows g c content holds =

@@ -9,7 +9,7 @@ use Rattle.rank_world.specs.Holding.{cell_array}
 use Rattle.amr_engine.specs.Filling.{IsFilled}
 use Rattle.mesh_model.specs.Geometry.Limits.{IsShape}
 use Rattle.mesh_model.specs.Fields.ArrayPlaces.{IsSize}
-use Rattle.amr_engine.proofs.Blocks.{size_by, small_block}
+use Rattle.staggered.proofs.Blocks.{size_by, small_block}
 use Rattle.amr_engine.proofs.filling.fill_leaf.Goals as goal
 
 pub fill_block-requires-clause-block : goal.fill_block-requires-clause-block

@@ -10,7 +10,7 @@ use Rattle.block_tree.specs.Numbered.{block_at}
 use Rattle.rank_world.specs.Holding.{cell_array}
 use Rattle.step_advect.specs.Fluxed.{AreSidesWithin}
 use Rattle.amr_engine.specs.Flowing.{AreFluxes}
-use Rattle.amr_engine.proofs.Blocks.{size_by}
+use Rattle.staggered.proofs.Blocks.{size_by}
 use Rattle.amr_engine.proofs.Flown.{leaf_sides}
 use Rattle.amr_engine.proofs.flowing.flux_along.Goals as goal
 

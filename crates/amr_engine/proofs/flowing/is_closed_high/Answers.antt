@@ -1,5 +1,5 @@
 use Rattle.std.proofs.Common.{rules}
-use Rattle.amr_engine.proofs.Blocks.{small_block}
+use Rattle.staggered.proofs.Blocks.{small_block}
 use Rattle.amr_engine.proofs.Flown.{coordinate_small}
 use Rattle.amr_engine.proofs.flowing.is_closed_high.Goals as goal
 

@@ -15,7 +15,7 @@ use Rattle.rank_world.specs.Holding.{cell_array}
 use Rattle.step_advect.specs.Applied.{flows_in, left_at}
 use Rattle.step_advect.specs.Lifts.{AreOuterSides}
 use Rattle.amr_engine.specs.Settling.{HoldsContents, IsLost, work_cells}
-use Rattle.amr_engine.proofs.Blocks.{size_by, small_block}
+use Rattle.staggered.proofs.Blocks.{size_by, small_block}
 use Rattle.amr_engine.proofs.Machine.{wide}
 use Rattle.amr_engine.proofs.Stepped.{leaf_lost, leaf_made, leaf_none, leaf_refused, refused_inside}
 use Rattle.amr_engine.proofs.settling.settle_leaf.Goals as goal

@@ -6,7 +6,7 @@ use Rattle.mesh_model.specs.Tree.Kinds.{Grid}
 use Rattle.mesh_model.specs.Tree.ValidGrid.{Valid}
 use Rattle.block_tree.proofs.Facts.{known}
 use Rattle.rank_world.specs.Holding.{cell_array}
-use Rattle.amr_engine.proofs.Blocks.{size_by}
+use Rattle.staggered.proofs.Blocks.{size_by}
 use Rattle.amr_engine.proofs.Stepped.{calm_flows, out_small, step_faces_of}
 use Rattle.amr_engine.proofs.settling.step_calm.Goals as goal
 

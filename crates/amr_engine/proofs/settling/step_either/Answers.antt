@@ -9,7 +9,7 @@ use Rattle.block_tree.specs.Numbered.{block_at}
 use Rattle.flux_conserve.specs.Jumps.{is_at_jump}
 use Rattle.flux_conserve.specs.Work.{HasNoJump, IsJumpNode, work_array}
 use Rattle.rank_world.specs.Holding.{IsLeafNode, cell_array}
-use Rattle.amr_engine.proofs.Blocks.{size_by}
+use Rattle.staggered.proofs.Blocks.{size_by}
 use Rattle.amr_engine.proofs.Stepped.{jump_flows, out_small, work_faces}
 use Rattle.amr_engine.proofs.settling.step_either.Goals as goal
 

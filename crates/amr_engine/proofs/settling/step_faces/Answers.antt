@@ -8,7 +8,7 @@ use Rattle.mesh_model.specs.Tree.Kinds.{Grid}
 use Rattle.mesh_model.proofs.FieldLemmas.Worlds.{fit_after, has_array, only_of, written_in}
 use Rattle.step_advect.specs.Applied.{AreInRange, IsApplied, first_out, flows_in, inner, left_at, out_through}
 use Rattle.amr_engine.specs.Settling.{work_cells}
-use Rattle.amr_engine.proofs.Blocks.{size_by}
+use Rattle.staggered.proofs.Blocks.{size_by}
 use Rattle.amr_engine.proofs.Stepped.{range_of}
 use Rattle.amr_engine.proofs.settling.step_faces.Goals as goal
 

@@ -12,7 +12,7 @@ use Rattle.flux_conserve.specs.Work.{work_array}
 use Rattle.step_advect.specs.Applied.{AreInRange, IsApplied, first_out, flows_in, inner, left_at}
 use Rattle.step_advect.specs.Fluxed.{AreFacesWithin}
 use Rattle.amr_engine.specs.Settling.{work_cells}
-use Rattle.amr_engine.proofs.Blocks.{size_by}
+use Rattle.staggered.proofs.Blocks.{size_by}
 use Rattle.amr_engine.proofs.Stepped.{faces_of, in_flows, range_of}
 use Rattle.amr_engine.proofs.settling.step_leaf.Goals as goal
 

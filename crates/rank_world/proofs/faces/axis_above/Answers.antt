@@ -1,4 +1,4 @@
-use Rattle.std.proofs.Common.{rules, to_z, of_z, w64, ◌≡◌, ◌≤◌, ◌+◌, None, Some, sym, ap, ap₂, subst, ◌∙◌}
+use Rattle.std.proofs.Common.{◌≡◌, ◌≤◌, ◌+◌, None, Some, sym, ap, subst, ◌∙◌}
 use Rattle.amr_num.specs.declared.Axis.TheVariants.{X, Y, Z}
 use Rattle.mesh_model.specs.declared.geometry.Shape.{Shape}
 use Rattle.mesh_model.specs.Fields.ArrayPlaces.{face_extents, number_at}
@@ -11,16 +11,16 @@ use Rattle.block_tree.specs.GridOf.{grid_of}
 use Rattle.block_tree.specs.Numbered.{block_at}
 use Rattle.block_tree.proofs.Facts.{known}
 use Rattle.rank_world.specs.FaceRange.{CountLeafFaces}
-use Rattle.rank_world.proofs.FaceRange.{at_most, axis_found, named_as}
+use Rattle.rank_world.proofs.FaceRange.{at_most, axis_found, told_as}
 use Rattle.rank_world.proofs.Found.{face_inside, small_block}
 use Rattle.rank_world.proofs.faces.axis_above.Goals as goal
 
-pub name_of-requires-clause-block : goal.name_of-requires-clause-block
-name_of-requires-clause-block g c =
+pub face_told-requires-clause-block : goal.face_told-requires-clause-block
+face_told-requires-clause-block g c =
     small_block c.shape-shape.result c.at-block.result c.shape-shape.ensures.limits (subst (λ s. InDomain s c.at-block.result) (sym c.shape-shape.ensures.value) c.at-block.ensures.inside)
 
-pub name_of-requires-clause-place : goal.name_of-requires-clause-place
-name_of-requires-clause-place g c =
+pub face_told-requires-clause-place : goal.face_told-requires-clause-place
+face_told-requires-clause-place g c =
     let n = g.row.N in
     let f = c.leaf_faces-faces.result in
     let found = c.in-Some.found in
@@ -55,8 +55,7 @@ returns-in-Some g c field has =
     subst (λ (h : Grid). CountLeafFaces h (block_at h c.args.node) f) tree (subst (λ d. CountLeafFaces (grid_of c.tree-tree.result.now) d f) c.at-block.ensures.value c.leaf_faces-faces.ensures.counts) in
     let shape : c.shape-shape.result ≡ w.told.grid.shape = c.shape-shape.ensures.value ∙ ap (λ (h : Grid). h.shape) tree in
     let block : c.at-block.result ≡ b = c.at-block.ensures.value ∙ ap (λ (h : Grid). block_at h c.args.node) tree in
-    let value : to_z w64 (of_z w64 found.value) ≡ found.value = search rules in
-    ap₂ (λ at v. Some (record { face = at; value = v }))
-    (c.name_of.ensures ∙ named_as c.shape-shape.result w.told.grid.shape c.args.axis f.axis c.at-block.result b found.i found.j found.k shape (sym c.leaf_faces-faces.ensures.axis) block) value
+    ap Some
+    (c.face_told.ensures ∙ told_as c.shape-shape.result w.told.grid.shape c.args.axis f.axis c.at-block.result b found shape (sym c.leaf_faces-faces.ensures.axis) block)
     ∙ axis_found c.args.work g.row.N g.row.G w c.args.axis c.args.node c.requires.fit valid c.requires.leaf inside f c.leaf_faces-faces.ensures.axis counts c.values.result.now (c.values.ensures.value ∙ ap (λ v. array_in (rank_at w 0).own.values v c.args.node) c.face_var.ensures.value) field has
     (Some found) (sym c.in-Some.is ∙ c.faces_above.ensures)

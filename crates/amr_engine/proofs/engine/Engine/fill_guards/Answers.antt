@@ -3,7 +3,7 @@ use Rattle.mesh_model.specs.Fields.Valid.{ValidMesh}
 use Rattle.rank_world.specs.Holding.{IsOfMesh}
 use Rattle.amr_engine.specs.EngineMesh.{mesh_of}
 use Rattle.amr_engine.proofs.Advanced.{ready}
-use Rattle.amr_engine.proofs.Kept.{cells_keep_faces, guards_kept, meshes_kept, parents_kept}
+use Rattle.amr_engine.proofs.Kept.{cells_keep_fields, guards_kept, meshes_kept, parents_kept}
 use Rattle.amr_engine.proofs.Made.{laid_same, of_now, same_mesh}
 use Rattle.amr_engine.proofs.ValidOut.{mesh_out}
 use Rattle.amr_engine.proofs.engine.Engine.fill_guards.Goals as goal
@@ -25,8 +25,8 @@ invariant_of-self g c =
     let d = c.fill.new.world in
     let told : d.told ≡ a.told = c.fill.ensures.only.only.told ∙ c.restrict_all.ensures.only.only.told in
     let of : IsOfMesh d m =
-    meshes_kept b d c.fill.ensures.only.only.told (guards_kept b d c.args.var c.fill.ensures.only) (cells_keep_faces b d c.args.var c.fill.ensures.only.only) m
-    (meshes_kept a b c.restrict_all.ensures.only.only.told (parents_kept a b c.args.var c.restrict_all.ensures.only) (cells_keep_faces a b c.args.var c.restrict_all.ensures.only.only) m (of_now self.names self.world self.outs.items self.marks self.laid_out valid)) in
+    meshes_kept b d c.fill.ensures.only.only.told (guards_kept b d c.args.var c.fill.ensures.only) (cells_keep_fields b d c.args.var c.fill.ensures.only.only) m
+    (meshes_kept a b c.restrict_all.ensures.only.only.told (parents_kept a b c.args.var c.restrict_all.ensures.only) (cells_keep_fields a b c.args.var c.restrict_all.ensures.only.only) m (of_now self.names self.world self.outs.items self.marks self.laid_out valid)) in
     record {
       fit = c.fill.ensures.fit;
       laid_out = laid_same self.names self.world self.outs.items self.marks self.laid_out valid d told of;
@@ -43,8 +43,8 @@ returns-clause-mesh g c =
     let d = c.fill.new.world in
     let told : d.told ≡ a.told = c.fill.ensures.only.only.told ∙ c.restrict_all.ensures.only.only.told in
     let of : IsOfMesh d m =
-    meshes_kept b d c.fill.ensures.only.only.told (guards_kept b d c.args.var c.fill.ensures.only) (cells_keep_faces b d c.args.var c.fill.ensures.only.only) m
-    (meshes_kept a b c.restrict_all.ensures.only.only.told (parents_kept a b c.args.var c.restrict_all.ensures.only) (cells_keep_faces a b c.args.var c.restrict_all.ensures.only.only) m (of_now self.names self.world self.outs.items self.marks self.laid_out valid)) in
+    meshes_kept b d c.fill.ensures.only.only.told (guards_kept b d c.args.var c.fill.ensures.only) (cells_keep_fields b d c.args.var c.fill.ensures.only.only) m
+    (meshes_kept a b c.restrict_all.ensures.only.only.told (parents_kept a b c.args.var c.restrict_all.ensures.only) (cells_keep_fields a b c.args.var c.restrict_all.ensures.only.only) m (of_now self.names self.world self.outs.items self.marks self.laid_out valid)) in
     same_mesh self.names self.world self.outs.items self.marks self.laid_out valid d told of
 
 pub returns-clause-guards : goal.returns-clause-guards

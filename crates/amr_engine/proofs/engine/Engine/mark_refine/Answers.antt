@@ -50,8 +50,8 @@ invariant_of-self-2 g c =
         cells = self.laid_out.cells;
         faces = self.laid_out.faces;
         edges = self.laid_out.edges;
-        edge = self.laid_out.edge;
         on_faces = self.laid_out.on_faces;
+        on_edges = self.laid_out.on_edges;
         flowed = self.laid_out.flowed;
         room = c.set_refine.ensures.room ∙ self.laid_out.room;
       };

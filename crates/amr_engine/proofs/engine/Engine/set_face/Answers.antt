@@ -4,7 +4,7 @@ use Rattle.mesh_model.specs.Fields.Ranks.{Told, WorldState}
 use Rattle.mesh_model.specs.Fields.Valid.{ValidMesh}
 use Rattle.amr_engine.specs.EngineMesh.{mesh_of}
 use Rattle.amr_engine.proofs.FacePut.{put_allowed, put_is, put_laid, put_refused, put_valid, put_within}
-use Rattle.amr_engine.specs.Setting.{with_face}
+use Rattle.staggered.specs.Setting.{with_face}
 use Rattle.amr_engine.proofs.Made.{has_faces, of_now}
 use Rattle.amr_engine.proofs.ValidOut.{mesh_out}
 use Rattle.amr_engine.proofs.engine.Engine.set_face.Goals as goal

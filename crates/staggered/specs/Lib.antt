@@ -1,0 +1,4 @@
+pub mod Blocks
+pub mod Facing
+pub mod Setting
+pub mod Curling
