@@ -5,18 +5,7 @@ ghost use Rattle.mesh_model.specs.Language.Commands.{plain_script};
 ghost use Rattle.std.specs.List.{list_all};
 ghost use Rattle.std.specs.Prelude.{◌≡◌};
 
-use mesh_model::Group;
-use mesh_model::language::script::{Command, Declared, Line, Script};
-
-/// Whether guard places of a variable of the group are built.
-fn has_guards(group: Group) -> bool
-    ensures { result ≡ plain.has_guards group }
-{
-    match group {
-        Group::Cell(_) => true,
-        Group::Face | Group::Edge => false,
-    }
-}
+use mesh_model::language::script::{Command, Line, Script};
 
 /// Whether the command is built.
 fn is_built_command(command: Command) -> bool
@@ -35,21 +24,15 @@ fn is_built_command(command: Command) -> bool
         Command::FillAll { .. } => true,
         Command::FillBox { .. } => true,
         Command::FaceSet { .. } => true,
+        Command::EdgeSet { .. } => true,
         Command::Uniform { .. } => true,
+        Command::Curl => true,
         Command::NetFlux => true,
-        Command::PrintGuards { group, .. } => has_guards(group),
+        Command::PrintGuards { .. } => true,
         Command::PrintVar { .. } => true,
         Command::Total { .. } => true,
         _ => false,
     }
-}
-
-/// Whether meshes as declared are built.
-#[tactic(auto, unfolding(crate::specs::Built::is_built_mesh))]
-fn is_built_mesh(declared: &Declared) -> bool
-    ensures { result ≡ plain.is_built_mesh declared.now }
-{
-    declared.names.edge().is_none()
 }
 
 /// Whether all commands of the lines are built.
@@ -65,5 +48,5 @@ fn are_built(lines: &[Line]) -> bool
 pub fn built(script: &Script, ranks: u32, workers: u32) -> bool
     ensures { result ≡ plain.is_built (plain_script script.now) ranks workers }
 {
-    is_built_mesh(&script.declared) && ranks <= 1 && workers <= 1 && are_built(&script.lines)
+    ranks <= 1 && workers <= 1 && are_built(&script.lines)
 }

@@ -18,7 +18,7 @@ use Rattle.amr_engine.specs.declared.cause.StoppedBy.{StoppedBy}
 use Rattle.amr_engine.specs.declared.cause.StoppedBy.TheVariants as by
 use Rattle.amr_engine.specs.Stopping.{Leaves, MayStop, Written, Wrote, WrotePart}
 use Rattle.amr_report.proofs.Printed.{broke_within}
-use Rattle.amr_engine.specs.Built.{IsBuiltLine, is_built, is_built_mesh, is_built_command}
+use Rattle.amr_engine.specs.Built.{IsBuiltLine, is_built, is_built_command}
 use Rattle.mesh_model.specs.Language.Commands.{InLimits, IsLineOf, PlainScript}
 use Rattle.mesh_model.specs.Fields.Plain.{Mesh}
 use Rattle.outside_io.specs.Moved.{Rose, Takes, TakesPrefix}
@@ -243,10 +243,6 @@ came_stopped s by.Sink line result a b c f g h stops ends =
 
 -- ---- what a built script is
 
-pub built_mesh : (s : PlainScript) → is_built s 1 1 ≡ true → is_built_mesh s.declared ≡ true
-unfolding is_built
-built_mesh s h = (and_parts _ _ (and_parts _ _ (and_parts _ _ h).0).0).0
-
 pub built_lines : (s : PlainScript) → is_built s 1 1 ≡ true → All IsBuiltLine s.lines
 unfolding is_built
 built_lines s h = each s.lines (and_parts _ _ h).1
@@ -254,14 +250,6 @@ built_lines s h = each s.lines (and_parts _ _ h).1
     each : (lines : List Line) → list_all (λ line. is_built_command line.command) lines ≡ true → All IsBuiltLine lines
     each [] all = All-nil IsBuiltLine
     each (line ∷ lines) all = All-cons IsBuiltLine line lines (and_parts _ _ all).0 (each lines (and_parts _ _ all).1)
-
-none_there : {A : Type 0} (o : Option A) → is_none o ≡ true → o ≡ None
-none_there None h = refl
-none_there (Some x) h = absurd (cc)
-
-pub built_names : (d : Declared) → is_built_mesh d ≡ true → d.names.edge ≡ None
-unfolding is_built_mesh
-built_names d h = none_there d.names.edge h
 
 -- ---- laws along a run
 

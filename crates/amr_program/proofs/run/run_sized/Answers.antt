@@ -4,14 +4,14 @@ use Rattle.amr_engine.specs.Built.{IsBuiltLine}
 use Rattle.amr_engine.specs.Plain.{declared_of, plain}
 use Rattle.amr_engine.specs.Stopping.{Written, stopped_by}
 use Rattle.amr_program.specs.Outcome.{Stopped}
-use Rattle.amr_program.proofs.Commands.{at_start, built_lines, built_mesh, built_names, came_done_from, came_stopped, starved_first}
+use Rattle.amr_program.proofs.Commands.{at_start, built_lines, came_done_from, came_stopped, starved_first}
 use Rattle.amr_program.proofs.run.run_sized.Goals as goal
 
 pub returns-in-Err-clause-came : goal.returns-in-Err-clause-came
 returns-in-Err-clause-came g c = starved_first _ _ _ c.end.ensures
 
 pub new-requires : goal.new-requires
-new-requires g c = (omega arith, (c.requires.limits.shape, (c.requires.sizes, (built_names _ (built_mesh (plain_script c.args.script) c.requires.built), c.requires.limits.names.few))))
+new-requires g c = (omega arith, (c.requires.limits.shape, (c.requires.sizes, c.requires.limits.names.few)))
 
 pub run-requires : goal.run-requires
 run-requires g c =
