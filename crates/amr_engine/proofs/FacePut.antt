@@ -29,17 +29,16 @@ use Rattle.mesh_model.specs.Language.Commands.{IsCommandOf}
 use Rattle.mesh_model.specs.Run.Stops.{or_else, refusal}
 use Rattle.mesh_model.specs.Tree.Kinds.{Grid, is_leaf_block, is_leaf_face, is_split_face}
 use Rattle.mesh_model.specs.Tree.ValidGrid.{Valid}
-use Rattle.mesh_model.proofs.RunLemmas.RunValid.{keeps_validity}
+use Rattle.mesh_model.proofs.RunLemmas.RunValid.{face_as_is, keeps_validity}
 use Rattle.flux_conserve.specs.FaceArrays as arrays
 use Rattle.flux_conserve.specs.Jumps.{face_name}
 use Rattle.flux_conserve.proofs.Fields.{by_spot, view_jumped}
 use Rattle.rank_world.specs.Holding.{IsLeafNode, LeavesHoldFaces, OnlyAxes}
 use Rattle.amr_engine.specs.EngineMesh.{IsLaidOut, mesh_of}
-
 use Rattle.staggered.specs.Setting.{IsFaceSet, IsPlace, name_at, number_of, with_face}
 use Rattle.amr_engine.specs.Stopping.{MayStop, stopped_by}
 use Rattle.amr_engine.specs.declared.cause.Cause.TheVariants.{Place}
-use Rattle.amr_engine.proofs.FacesMade.{faces_laid, faces_made}
+use Rattle.amr_engine.proofs.FacesMade.{faces_alone, faces_laid, faces_made}
 use Rattle.amr_engine.proofs.Made.{has_faces, of_now}
 
 -- ---- the numbers of a leaf's faces are small
@@ -63,27 +62,6 @@ view_within g valid field small a b leaf =
 one_of : (first : Bool) (x y : ℤ) → Within (2 ^ 40) x → Within (2 ^ 42) y → Within (2 ^ 56) (if first then x else y)
 one_of true x y small other = omega (arith, small)
 one_of false x y other small = omega (arith, small)
-
--- ---- a canonical name is its own
-
-own_place : (s : Shape) (a : Axis) (l p : ℕ) → is_canonical_at s a l p ≡ true → wrapped (is_periodic s a) (extent s a l) p ≡ p
-unfolding is_canonical_at wrapped
-own_place s a l p h = by_kind (is_periodic s a) h
-  where
-    by_kind : (periodic : Bool) → (not periodic || nat_lt p (extent s a l)) ≡ true → (if periodic && (p == extent s a l) then 0 else p) ≡ p
-    by_kind false h = refl
-    by_kind true h = let below = ltb-true p (extent s a l) h in rw (ne_eqb p (extent s a l) (λ e. absurd (omega (arith, e, below)))) refl
-
--- setting a coordinate to what it is
-own_on : (a : Axis) (c : CellAt) → with a (on a c) c ≡ c
-own_on X c = refl
-own_on Y c = refl
-own_on Z c = refl
-
-own_name : (s : Shape) (f : FaceAt) → is_canonical s f ≡ true → canonical_face s f ≡ f
-own_name s f h =
-    let c = face_numbers f in
-    ap (λ p. face_of f.axis (with f.axis p c)) (own_place s f.axis f.level (on f.axis c) h) ∙ ap (face_of f.axis) (own_on f.axis c)
 
 both_true : (x y : Bool) → (x && y) ≡ true → x ≡ true
 both_true true y h = refl
@@ -134,15 +112,15 @@ module _ (names : VariableNames) (w : WorldState) (outs : List ℤ) (marks : Mar
 
         field_is : with_face now.faces at raw ≡ set_field
         unfolding mesh_of
-        field_is = ap₂ (λ (x : FaceAt) (v : ℤ). (λ (f : FaceAt). if is_same_face f x then v else now.faces f)) (sym (own_name w.told.grid.shape at (both_true _ _ leaf_one))) kept
+        field_is = ap₂ (λ (x : FaceAt) (v : ℤ). (λ (f : FaceAt). if is_same_face f x then v else now.faces f)) (sym (face_as_is w.told.grid.shape at (both_true _ _ leaf_one))) kept
 
         set_holds : LeavesHoldFaces new set_field
         set_holds = subst (LeavesHoldFaces new) field_is holds
 
         pub put_is : mesh_of names new outs marks ≡ set_face now at value
         unfolding set_face
-        put_is = faces_made names w outs marks laid valid new set_field only set_holds put_valid
+        put_is = faces_made names w outs marks laid valid new set_field (faces_alone w new only) set_holds put_valid
 
         pub put_laid : IsLaidOut names new outs marks
         unfolding set_face
-        put_laid = faces_laid names w outs marks laid valid new set_field only set_holds put_valid
+        put_laid = faces_laid names w outs marks laid valid new set_field (faces_alone w new only) set_holds put_valid

@@ -20,9 +20,10 @@ use Rattle.mesh_model.specs.Fields.Valid.{ValidMesh}
 use Rattle.mesh_model.specs.Fields.VariableNames.{VariableNames}
 use Rattle.mesh_model.specs.Fields.Totals.{total}
 use Rattle.mesh_model.specs.Run.Texts.{group_name}
+use Rattle.mesh_model.specs.declared.fields.values.Group.{Group}
 use Rattle.mesh_model.specs.declared.fields.values.Group.TheVariants as groups
 use Rattle.mesh_model.specs.Geometry.Limits.{most_nodes}
-use Rattle.mesh_model.specs.Language.Commands.{IsCommandOf, IsLeafNumber}
+use Rattle.mesh_model.specs.Language.Commands.{IsCommandOf, IsGroup, IsLeafNumber}
 use Rattle.mesh_model.specs.Run.Runs.{declared_in}
 use Rattle.mesh_model.specs.Run.Stops.{refusal}
 use Rattle.mesh_model.specs.Tree.Kinds.{Grid, is_leaf_block}
@@ -36,8 +37,8 @@ use Rattle.regrid_move.specs.declared.regridding.RegridStop.{RegridStop}
 use Rattle.regrid_move.specs.declared.regridding.RegridStop.TheVariants as stops
 use Rattle.mesh_model.specs.Tree.ValidGrid.{FewNodes, Valid}
 use Rattle.mesh_model.proofs.RunLemmas.RunValid.{keeps_validity}
-use Rattle.rank_world.specs.Holding.{IsLeafNode, IsOfMesh, LeavesHold}
-use Rattle.rank_world.specs.Holding.{OnlyCells}
+use Rattle.rank_world.specs.Contents.{edges_of}
+use Rattle.rank_world.specs.Holding.{IsLeafNode, IsOfMesh, LeavesHold, LeavesHoldEdges, OnlyCells}
 use Rattle.regrid_move.specs.Regrids.{AreOfMesh, IsPlanOf, IsRegridStop, IsRegridded}
 use Rattle.amr_engine.specs.Stopping.{Changes, MayStop, cause_of_regrid, stopped_by}
 use Rattle.amr_engine.specs.declared.cause.Cause.{Cause}
@@ -55,6 +56,7 @@ use Rattle.amr_engine.specs.Regions.{IsRegionOf, filled, filled_content}
 use Rattle.amr_engine.specs.declared.region.Fill.{Fill}
 use Rattle.amr_engine.specs.declared.region.Region.TheVariants as regions
 use Rattle.amr_engine.proofs.Filled.{holds_same}
+use Rattle.amr_engine.proofs.Printed.{IsThere}
 use Rattle.amr_engine.proofs.Shown.{laid_shown, leaves_on, mesh_shown, own_mesh}
 use Rattle.rank_world.proofs.Meshes.{edges_same, faces_same}
 
@@ -69,6 +71,14 @@ three_tests false q r = refl
 abbrev pub at_limit : Result (Unit {0}) LevelStop → Result (Unit {0}) Cause
 at_limit (Ok done) = Ok done
 at_limit (Err stop) = Err (causes.Level stop)
+
+-- what is declared is counted
+some_counted : (count : ℕ) (name : Option (List ℕ)) → (count ≡ 0) ↔ (name ≡ None) → IsSome name → 0 < count
+some_counted count None any some = absurd cc
+some_counted count (Some name) any some = elim (cases_lt 0 count) [
+  | inl more ↦ more
+  | inr none ↦ absurd (let is = any.0 (omega (arith, none)) in cc)
+]
 
 apart : (v var : ℕ) → (v == var) ≡ false → v ≢ var
 apart v var other e = absurd (let t = eq-eqb v var e in cc)
@@ -301,21 +311,21 @@ module _ (names : VariableNames) (w : WorldState) (outs : List ℤ) (marks : Mar
   unfolding mesh_of
   grid_is = refl
 
-  pub name_is : (var : ℕ) → group_name now.names (groups.Cell var) ≡ get_or names.cells var []
+  pub named_now : (group : Group) → group_name now.names group ≡ group_name names group
   unfolding mesh_of
-  name_is var = refl
+  named_now group = refl
 
-  -- the face variable, where one is declared: its arrays are there, and its name
+  -- the face variable and the edge variable, where one is declared: its arrays are there
   pub has_faces : IsSome names.face → 0 < w.told.counts.faces
-  has_faces some = elim (cases_lt 0 w.told.counts.faces) [
-    | inl more ↦ more
-    | inr none ↦ absurd (no_some names.face (laid.faces.0 (omega (arith, none))) some)
-  ]
-    where
-      no_some : (o : Option (List ℕ)) → o ≡ None → IsSome o → ⊥
-      no_some None is some = absurd cc
-      no_some (Some name) is some = cc
+  has_faces some = some_counted w.told.counts.faces names.face laid.faces some
 
-  pub face_name_is : (name : List ℕ) → names.face ≡ Some name → group_name now.names groups.Face ≡ name
-  unfolding mesh_of
-  face_name_is name is = ap (λ (o : Option (List ℕ)). group_name (record { cells = names.cells; face = o; edge = names.edge }) groups.Face) is
+  pub has_edges : IsSome names.edge → 0 < w.told.counts.edges
+  has_edges some = some_counted w.told.counts.edges names.edge laid.edges some
+
+  pub group_there : (group : Group) → IsGroup names group → IsThere w group
+  group_there (groups.Cell v) declared = subst (λ m. v < m) (sym laid.cells) declared
+  group_there groups.Face declared = has_faces declared
+  group_there groups.Edge declared = has_edges declared
+
+  pub edges_now : 0 < w.told.counts.edges → LeavesHoldEdges false w (edges_of w)
+  edges_now some = laid.on_edges some

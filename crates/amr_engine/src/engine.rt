@@ -2,14 +2,12 @@
 
 use crate::advection::step;
 use crate::cause::{Cause, Stop};
-
 use crate::filling::fill_leaves;
 use crate::marking::{Where, mark_where};
 use crate::netting::net_fluxes;
 use crate::region::{CellBox, Fill, Region};
-use staggered::{NoFace, set_face, set_uniform};
 use crate::totals::total;
-use amr_num::{BlockAt, FaceAt, OutOfMemory};
+use amr_num::{BlockAt, EdgeAt, FaceAt, OutOfMemory};
 use amr_report::{
     print_guards, print_mesh, print_netflux, print_size, print_total, print_tree, print_var,
 };
@@ -26,6 +24,7 @@ use outside_io::sink::Sink;
 use rank_world::World;
 use refine_marks::{SetMarks, close};
 use regrid_move::regrid;
+use staggered::{NoEdge, NoFace, set_curl, set_edge, set_face, set_uniform};
 use std::alloc::Global;
 
 /// A mesh on which the commands of a script are done: its world, which has the tree and the numbers in blocks of `N`
@@ -46,7 +45,9 @@ pub struct Engine<const N: usize, const G: usize> {
 ghost use Rattle.amr_engine.specs.EngineMesh.{IsLaidOut, mesh_of};
 ghost use Rattle.mesh_model.specs.Fields.Ranks.{IsFit};
 ghost use Rattle.mesh_model.specs.Fields.Valid.{ValidMesh};
-ghost use Rattle.std.specs.Prelude.{◌≡◌, ◌↔◌, None, IfOk, MatchResult, Ok, Err, pos, replicate};
+ghost use Rattle.mesh_model.specs.Language.Commands.{IsGroup};
+ghost use Rattle.mesh_model.specs.Run.Texts.{group_name};
+ghost use Rattle.std.specs.Prelude.{◌≡◌, ◌↔◌, ◌≤◌, None, IfOk, MatchResult, Ok, Err, length, pos, replicate};
 
 /// A call that prints stops a command where the sink fails.
 fn written(printed: Result<(), Failed>) -> Result<(), Cause>
@@ -88,8 +89,27 @@ fn edge_variables(names: &Names) -> u32
     }
 }
 
+/// The name of a variable that is declared.
+fn name_of(names: &Names, group: Group) -> &str
+    requires { IsGroup names.now group }
+    ensures name { result.now ≡ group_name names.now group }
+    ensures short { length result.now ≤ 16 }
+{
+    match group {
+        Group::Cell(var) => names.cell(var),
+        Group::Face => match names.face() {
+            Some(name) => name,
+            None => unreachable!(),
+        },
+        Group::Edge => match names.edge() {
+            Some(name) => name,
+            None => unreachable!(),
+        },
+    }
+}
+
 impl<const N: usize, const G: usize> Engine<N, G> {
-    ghost use Rattle.amr_engine.specs.Built.{IsBuiltLine, has_guards, is_built_command};
+    ghost use Rattle.amr_engine.specs.Built.{IsBuiltLine, is_built_command};
     ghost use Rattle.mesh_model.specs.Run.Runs.{MakesBalance};
     ghost use Rattle.amr_engine.specs.Plain.{declared_of, plain};
     ghost use Rattle.amr_engine.specs.Regions.{IsRegionOf, filled};
@@ -239,6 +259,8 @@ impl<const N: usize, const G: usize> Engine<N, G> {
             Command::PrintVar { group } => written(self.print_variable(group, sink)),
             Command::Total { var } => written(self.print_total(var, sink)),
             Command::NetFlux => written(self.print_net_flux(sink)),
+            Command::Curl => self.curl(),
+            Command::EdgeSet { at, value } => self.set_edge(at, value),
             _ => unreachable!(),
         }
     }
@@ -342,6 +364,33 @@ impl<const N: usize, const G: usize> Engine<N, G> {
         }
     }
 
+    /// Sets one leaf edge, and with it what the coarse edges round which finer leaves stand have there.
+    fn set_edge(&mut self, at: EdgeAt, value: i64) -> Result<(), Cause>
+        requires fits { IsCommandOf (declared_of self.old) (Command.EdgeSet at value) }
+        ensures changes { Changes result (plain self.old) (Command.EdgeSet at value) (plain self.new) }
+        ensures declared { declared_of self.new ≡ declared_of self.old }
+    {
+        match set_edge(&mut self.world, at, value) {
+            Ok(()) => {
+                agree(&mut self.world, Group::Edge, false);
+                Ok(())
+            }
+            Err(NoEdge) => Err(Cause::Place(Spot::Edge(at))),
+        }
+    }
+
+    /// Sets each leaf face to the circulation of the edge variable round it.
+    fn curl(&mut self) -> Result<(), Cause>
+        requires fits { IsCommandOf (declared_of self.old) Command.Curl }
+        ensures changes { Changes result (plain self.old) Command.Curl (plain self.new) }
+        ensures declared { declared_of self.new ≡ declared_of self.old }
+    {
+        match set_curl(&mut self.world) {
+            Ok(()) => Ok(()),
+            Err(found) => Err(Cause::of_faces(found)),
+        }
+    }
+
     /// Makes one step of the variable.
     fn advect(&mut self, var: u32, speeds: [i64; 3]) -> Result<(), Cause>
         requires variable { IsCellVariable (declared_of self.old).names var }
@@ -364,20 +413,8 @@ impl<const N: usize, const G: usize> Engine<N, G> {
         requires { IsGroup (declared_of self.now).names group }
         ensures { Prints result (K.taken sink.old) (variable_text (plain self.now) group) (K.taken sink.new) (K.faults sink.old) (K.faults sink.new) }
     {
-        match group {
-            Group::Cell(var) => print_var(
-                sink,
-                self.world.tree(),
-                self.names.cell(var),
-                group,
-                &self.world,
-            ),
-            Group::Face => match self.names.face() {
-                Some(name) => print_var(sink, self.world.tree(), name, group, &self.world),
-                None => unreachable!(),
-            },
-            Group::Edge => unreachable!(),
-        }
+        let name = name_of(&self.names, group);
+        print_var(sink, self.world.tree(), name, group, &self.world)
     }
 
     /// Fills the guard cells of the variable in all leaves. No content changes.
@@ -428,10 +465,8 @@ impl<const N: usize, const G: usize> Engine<N, G> {
         requires { IsSome (declared_of self.now).names.face }
         ensures { Prints result (K.taken sink.old) (netflux_text (plain self.now)) (K.taken sink.new) (K.faults sink.old) (K.faults sink.new) }
     {
-        match self.names.face() {
-            Some(name) => print_netflux(sink, name, net_fluxes(&self.world)),
-            None => unreachable!(),
-        }
+        let name = name_of(&self.names, Group::Face);
+        print_netflux(sink, name, net_fluxes(&self.world))
     }
 
     /// Prints the total of a cell variable.
@@ -440,6 +475,7 @@ impl<const N: usize, const G: usize> Engine<N, G> {
         ensures { Prints result (K.taken sink.old) (total_text (plain self.now) var) (K.taken sink.new) (K.faults sink.old) (K.faults sink.new) }
     {
         let total = total(&self.world, var);
-        print_total(sink, self.names.cell(var), total, self.outs[var as usize])
+        let name = name_of(&self.names, Group::Cell(var));
+        print_total(sink, name, total, self.outs[var as usize])
     }
 }

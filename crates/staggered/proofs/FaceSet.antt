@@ -63,7 +63,7 @@ module _ (g : Grid) (valid : Valid g) where
 
 -- ---- one number that is put
 
-cases_axis : (x a : Axis) → (x ≡ a) ⊎ (x ≡ a → ⊥)
+pub cases_axis : (x a : Axis) → (x ≡ a) ⊎ (x ≡ a → ⊥)
 cases_axis X X = inl refl
 cases_axis X Y = inr (λ is. cc)
 cases_axis X Z = inr (λ is. cc)

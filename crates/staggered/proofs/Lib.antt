@@ -4,3 +4,5 @@ pub mod FacesFound
 pub mod UniformSet
 pub mod FaceSet
 pub mod Curled
+pub mod CurlWalk
+pub mod EdgeSet

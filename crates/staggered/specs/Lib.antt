@@ -1,4 +1,5 @@
 pub mod Blocks
 pub mod Facing
 pub mod Setting
+pub mod EdgeSetting
 pub mod Curling

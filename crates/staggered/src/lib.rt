@@ -4,9 +4,11 @@
 
 pub mod cells;
 mod curling;
+mod edge_setting;
 mod facing;
 mod setting;
 
 pub use curling::set_curl;
+pub use edge_setting::{NoEdge, set_edge};
 pub use facing::set_uniform;
 pub use setting::{NoFace, set_face};

@@ -41,7 +41,7 @@ fn block_of(n: u32, c: CellAt) -> BlockAt
 }
 
 /// Whether a cell is there and is a leaf cell.
-fn is_leaf_cell(tree: &Tree, cell: Option<CellAt>) -> bool
+pub(crate) fn is_leaf_cell(tree: &Tree, cell: Option<CellAt>) -> bool
     ensures { result ≡ holds (is_leaf (grid_of tree.now)) cell }
 {
     let shape = tree.shape();
@@ -62,7 +62,7 @@ fn is_split_block(tree: &Tree, block: BlockAt) -> bool
 }
 
 /// Whether a cell is there and is split.
-fn is_split_cell(tree: &Tree, cell: Option<CellAt>) -> bool
+pub(crate) fn is_split_cell(tree: &Tree, cell: Option<CellAt>) -> bool
     ensures { result ≡ holds (is_split (grid_of tree.now)) cell }
 {
     let shape = tree.shape();

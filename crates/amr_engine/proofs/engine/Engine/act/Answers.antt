@@ -1,7 +1,7 @@
 use Rattle.std.proofs.Common.{◌^◌, Ok, arith, refl, sym, ap, subst, ◌∙◌}
 use Rattle.mesh_model.specs.Run.Texts.{mesh_text, size_text}
 use Rattle.mesh_model.specs.Run.TreeText.{tree_text}
-use Rattle.mesh_model.specs.declared.language.script.Command.TheVariants.{Advect, DerefineWhere, FaceSet, FillAll, FillBox, MarkDerefine, MarkRefine, NetFlux, PrintMesh, PrintSize, PrintTree, PrintVar, RefineWhere, Regrid, Total, Uniform}
+use Rattle.mesh_model.specs.declared.language.script.Command.TheVariants.{Advect, Curl, DerefineWhere, EdgeSet, FaceSet, FillAll, FillBox, MarkDerefine, MarkRefine, NetFlux, PrintMesh, PrintSize, PrintTree, PrintVar, RefineWhere, Regrid, Total, Uniform}
 use Rattle.amr_num.proofs.Machine.{kept}
 use Rattle.mesh_model.specs.Fields.Setting.{derefine_where, refine_where}
 use Rattle.mesh_model.specs.Language.Commands.{IsCommandOf}
@@ -66,6 +66,17 @@ returns-in-FaceSet-clause-acts g c =
     let fits = subst (IsCommandOf (declared_of self)) c.in-FaceSet.is c.requires.fits in
     acts_changing c.set_face.result (plain self) (plain c.set_face.new.self) c.args.command (FaceSet c.in-FaceSet.at c.in-FaceSet.value) (g.K.Sink.taken c.args.sink.now) (g.K.Sink.faults c.args.sink.now) c.in-FaceSet.is (λ sink. cc)
     (subst (λ v. Changes c.set_face.result (plain self) (FaceSet c.in-FaceSet.at v) (plain c.set_face.new.self)) (kept c.in-FaceSet.value (2 ^ 40) fits.2 (omega arith)) c.set_face.ensures.changes)
+
+pub returns-in-EdgeSet-clause-acts : goal.returns-in-EdgeSet-clause-acts
+returns-in-EdgeSet-clause-acts g c =
+    let self = c.args.self.now in
+    let fits = subst (IsCommandOf (declared_of self)) c.in-EdgeSet.is c.requires.fits in
+    acts_changing c.set_edge.result (plain self) (plain c.set_edge.new.self) c.args.command (EdgeSet c.in-EdgeSet.at c.in-EdgeSet.value) (g.K.Sink.taken c.args.sink.now) (g.K.Sink.faults c.args.sink.now) c.in-EdgeSet.is (λ sink. cc)
+    (subst (λ v. Changes c.set_edge.result (plain self) (EdgeSet c.in-EdgeSet.at v) (plain c.set_edge.new.self)) (kept c.in-EdgeSet.value (2 ^ 40) fits.2 (omega arith)) c.set_edge.ensures.changes)
+
+pub returns-in-Curl-clause-acts : goal.returns-in-Curl-clause-acts
+returns-in-Curl-clause-acts g c =
+    acts_changing c.curl.result (plain c.args.self.now) (plain c.curl.new.self) c.args.command Curl (g.K.Sink.taken c.args.sink.now) (g.K.Sink.faults c.args.sink.now) c.in-Curl.is (λ sink. cc) c.curl.ensures.changes
 
 pub returns-in-Advect-clause-acts : goal.returns-in-Advect-clause-acts
 returns-in-Advect-clause-acts g c =

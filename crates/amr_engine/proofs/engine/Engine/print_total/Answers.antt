@@ -8,7 +8,6 @@ use Rattle.amr_report.specs.Printing.{Prints}
 use Rattle.amr_engine.specs.EngineMesh.{mesh_of}
 use Rattle.amr_engine.proofs.Machine.{kept_128, wide}
 use Rattle.amr_engine.proofs.Made.{out_now, out_small, total_now}
-use Rattle.amr_engine.proofs.Named.{name_at}
 use Rattle.amr_engine.proofs.ValidOut.{mesh_out}
 use Rattle.amr_engine.proofs.engine.Engine.print_total.Goals as goal
 
@@ -26,7 +25,7 @@ returns g c =
     let out_is = out_now self.names self.world self.outs.items self.marks self.laid_out valid var c.requires c.index.result.now c.index.ensures in
     let small = out_small self.names self.world self.outs.items self.marks self.laid_out valid var c.requires in
     let out = wide c.index.result.now (2 ^ 100) (subst (λ z. Within (2 ^ 100) z) out_is small) (omega arith) ∙ sym out_is in
-    let name = name_at self.names.cells var c.cell.result.now c.cell.ensures.name in
+    let name = c.name_of-name.ensures.name in
     let plain_total = totals.total m.grid (m.cells var) in
     let plain_out = get_or self.outs.items var (pos 0) in
-    subst (λ n. told n plain_total plain_out) name (subst (λ t. told c.cell.result.now t plain_out) total (subst (told c.cell.result.now (kept_128 c.total-total.result)) out c.print_total.ensures))
+    subst (λ n. told n plain_total plain_out) name (subst (λ t. told c.name_of-name.result.now t plain_out) total (subst (told c.name_of-name.result.now (kept_128 c.total-total.result)) out c.print_total.ensures))

@@ -20,9 +20,9 @@ agree-requires g c =
       (
         c.set_face.ensures.fit,
         (
-          refl,
+          λ v is. cc,
           (
-            refl,
+            λ is. refl,
             (
               subst (λ (t : Told). 0 < t.counts.faces) (sym c.set_face.ensures.only.told) some,
               put_within self.names self.world self.outs.items self.marks self.laid_out valid c.args.at c.args.value c.requires.fits c.set_face.new.world (to_z w64 (of_z w64 c.args.value)) whole c.in-Ok.ensures.there c.set_face.ensures.only c.in-Ok.ensures.set,
