@@ -145,7 +145,10 @@ const REFUSED: [(&[u8], &[u8]); 4] = [
         b"domain 1 1 1\nfill all 2\nend\n",
         b"error: script line 2: wrong number of words\n",
     ),
-    (b"domain 1 2 1\nedgevar f\nend\n", b"error: not built\n"),
+    (
+        b"domain 1 2 1\nfacevar f\ninduct 0 0 0\nend\n",
+        b"error: not built\n",
+    ),
     (
         b"domain 1 1 1\ncellvar u\ncheckpoint\nend\n",
         b"error: not built\n",
@@ -430,6 +433,68 @@ mark derefine 1 1 1 1\nregrid\nend\n";
 #[test]
 fn faces_go_with_the_mesh(rt: HostRuntime) -> Result<(), Fail> {
     for (script, answer, printed) in FACED {
+        let (status, sink) = run(rt.alloc(), &[], script, QUIET)?;
+        assert_eq!(rt; status, answer);
+        assert_eq!(rt; sink.taken(), printed);
+    }
+    Ok(())
+}
+
+/// Scripts with an edge variable, how they end, and what they print.
+const EDGED: [(&[u8], Status, &[u8]); 6] = [
+    (
+        b"domain 1 1 1\ncells 4 1\nlevels 0 0\nfacevar b\nedgevar e\nedgeset z 0 1 1 0 10\ncurl\nprint b\nnetflux\nend\n",
+        Status::Done,
+        CURLED,
+    ),
+    // What a curl makes has no net flux, and keeps none where the mesh is refined.
+    (
+        b"domain 2 1 1\ncells 4 2\nlevels 0 1\ncellvar u\nfacevar b\nedgevar e\nedgeset z 0 2 2 1 90000\n\
+edgeset x 0 3 1 2 70000\ncurl\nnetflux\nmark refine 0 0 0 0\nregrid\nnetflux\nend\n",
+        Status::Done,
+        b"netflux b cells 0\nnetflux b cells 0\n",
+    ),
+    // The first face out of range has its canonical name.
+    (
+        b"domain 2 1 1\ncells 4 1\nlevels 0 1\nfacevar b\nedgevar e\nmark refine 0 1 0 0\nregrid\n\
+edgeset y 1 0 2 1 1099511627776\nedgeset y 1 0 2 2 -1099511627776\ncurl\nend\n",
+        Status::Stopped,
+        b"error: line 10: range b face x 1 0 2 1 2199023255552\n",
+    ),
+    // At a jump of level the finer edges alone are leaf edges, and the coarse edge is the sum of its halves: a curl has no
+    // net flux then.
+    (
+        b"domain 2 1 1\ncells 4 1\nlevels 0 1\nfacevar b\nedgevar e\nmark refine 0 0 0 0\nregrid\n\
+edgeset y 1 8 3 0 7\nedgeset z 1 8 4 5 -9\nedgeset x 0 5 1 1 4\ncurl\nnetflux\nedgeset y 0 4 1 0 7\nend\n",
+        Status::Stopped,
+        b"netflux b cells 0\nerror: line 13: place edge y 0 4 1 0\n",
+    ),
+    // An edge at the far end of a periodic axis is named by position 0, and one with finer leaves round it is none.
+    (
+        b"domain 1 1 1\ncells 4 1\nedgevar e\nedgeset z 0 4 0 0 1\nend\n",
+        Status::Stopped,
+        b"error: line 4: place edge z 0 4 0 0\n",
+    ),
+    (
+        b"domain 1 1 1\ncells 4 1\nlevels 0 1\nedgevar e\nedgeset z 0 1 1 0 5\nmark refine 0 0 0 0\nregrid\n\
+edgeset z 0 1 1 0 5\nend\n",
+        Status::Stopped,
+        b"error: line 8: place edge z 0 1 1 0\n",
+    ),
+];
+
+/// The face variable after a curl round one edge along z.
+const CURLED: &[u8] = b"face b x block 0 0 0 0\n0 10 0 0 0\n0 -10 0 0 0\n0 0 0 0 0\n0 0 0 0 0\n0 0 0 0 0\n0 0 0 0 0\n0 0 0 0 0\n\
+0 0 0 0 0\n0 0 0 0 0\n0 0 0 0 0\n0 0 0 0 0\n0 0 0 0 0\n0 0 0 0 0\n0 0 0 0 0\n0 0 0 0 0\n0 0 0 0 0\n\
+face b y block 0 0 0 0\n0 0 0 0\n-10 10 0 0\n0 0 0 0\n0 0 0 0\n0 0 0 0\n0 0 0 0\n0 0 0 0\n0 0 0 0\n\
+0 0 0 0\n0 0 0 0\n0 0 0 0\n0 0 0 0\n0 0 0 0\n0 0 0 0\n0 0 0 0\n0 0 0 0\n0 0 0 0\n0 0 0 0\n0 0 0 0\n\
+0 0 0 0\nface b z block 0 0 0 0\n0 0 0 0\n0 0 0 0\n0 0 0 0\n0 0 0 0\n0 0 0 0\n0 0 0 0\n0 0 0 0\n\
+0 0 0 0\n0 0 0 0\n0 0 0 0\n0 0 0 0\n0 0 0 0\n0 0 0 0\n0 0 0 0\n0 0 0 0\n0 0 0 0\n0 0 0 0\n0 0 0 0\n\
+0 0 0 0\n0 0 0 0\nnetflux b cells 0\n";
+
+#[test]
+fn edges_go_with_the_mesh(rt: HostRuntime) -> Result<(), Fail> {
+    for (script, answer, printed) in EDGED {
         let (status, sink) = run(rt.alloc(), &[], script, QUIET)?;
         assert_eq!(rt; status, answer);
         assert_eq!(rt; sink.taken(), printed);

@@ -1,5 +1,6 @@
 -- Leaves whose work faces get the circulations of their edges, one after the other, and that take these over.
-use Rattle.std.proofs.Common.{◌≡◌, ℕ, ◌+◌, ◌<◌, ◌≤◌, true, false, ℤ, None, length, refl, sym, ap, subst, ◌∙◌, arith, inl, inr}
+use Rattle.std.proofs.Common.{◌≡◌, ℕ, ◌+◌, ◌<◌, ◌≤◌, true, false, List, ℤ, Option, None, Some, Result, Ok, Err, OnOk, IfErr, refl, sym, ap, ap₂, subst, ◌∙◌, arith, inl, inr}
+use Rattle.std.specs.Option.{option_or}
 use Rattle.std.proofs.lemmas.Bool.{cases_lt}
 use Rattle.amr_num.specs.declared.Axis.{Axis}
 use Rattle.amr_num.specs.declared.Axis.TheVariants.{X, Y, Z}
@@ -17,13 +18,18 @@ use Rattle.mesh_model.specs.Tree.Kinds.{Grid, is_leaf_block}
 use Rattle.mesh_model.specs.Tree.ValidGrid.{Valid}
 use Rattle.mesh_model.proofs.FieldLemmas.FirstFound.{one_more_none}
 use Rattle.block_tree.specs.Numbered.{block_at}
-use Rattle.rank_world.specs.FaceRange.{HasAxis, HasWorkField, first_above}
+use Rattle.rank_world.specs.FaceRange.{HasAxis, HasWorkField, axis_above, first_above}
+use Rattle.rank_world.specs.declared.faces.FaceAbove.{FaceAbove}
 use Rattle.rank_world.specs.Holding.{IsLeafNode, LeavesHoldEdges, LeavesHoldFaces, NodeHoldsEdges, OnlyAxes, OnlyAxesOf, edge_array, face_array, stored}
 use Rattle.rank_world.proofs.FaceBlocks.{leaf_face_seen}
 use Rattle.step_induct.specs.Circling.{AreEdgeArrays}
 use Rattle.staggered.specs.Curling.{AreEdgesSmall, HasLeafEdges, HaveCirculations, IsFacesTaken, OnlyFacesAndWork, edge_arrays, round}
 use Rattle.staggered.specs.Facing.{above_below, node_above}
 use Rattle.staggered.proofs.Curled.{curl_seen}
+
+-- the arrays of edges along the axes, one by one
+pub three_arrays : (w : WorldState) (node : ℕ) (p q r : List ℤ) → p ≡ edge_array false w X node → q ≡ edge_array false w Y node → r ≡ edge_array false w Z node → by_axis p q r ≡ edge_arrays w node
+three_arrays w node p q r on_x on_y on_z = λ i. by_axis (on_x i) (on_y i) (on_z i)
 
 -- ---- worlds of which work faces alone change
 
@@ -66,6 +72,51 @@ has_still old new field node a x apart only has =
   where
     same_work : (a x : Axis) → FaceWork a ≡ FaceWork x → a ≡ x
     same_work a x is = cc
+
+-- ---- one leaf, axis by axis
+
+module _ (old a : WorldState) (node : ℕ) (on_x : OnlyOf old a 0 (FaceWork X) node) (edges : EdgeAt → ℤ) (holds : NodeHoldsEdges false old edges node) where
+  pub holds_first : NodeHoldsEdges false a edges node
+  holds_first = holds_still old a (same_after_one old a X node on_x) edges node holds
+
+  abbrev Above : WorldState → Axis → Option FaceAbove
+  Above w x = axis_above w.told.grid (curled w.told.grid edges) (block_at w.told.grid node) x
+
+  abbrev First : Option FaceAbove
+  First = first_above old.told.grid (curled old.told.grid edges) (block_at old.told.grid node)
+
+  as_old : (w : WorldState) (x : Axis) (o : Option FaceAbove) → w.told ≡ old.told → Above w x ≡ o → Above old x ≡ o
+  as_old w x o told is = subst (λ (t : Told). axis_above t.grid (curled t.grid edges) (block_at t.grid node) x ≡ o) told is
+
+  pub on_second : (found : FaceAbove) → Above old X ≡ None → Above a Y ≡ Some found → First ≡ Some found
+  on_second found none is = ap₂ (λ o r. option_or o (option_or r (Above old Z))) none (as_old a Y (Some found) on_x.told is)
+
+  module _ (b d : WorldState) (on_y : OnlyOf a b 0 (FaceWork Y) node) (on_z : OnlyOf b d 0 (FaceWork Z) node) where
+    pub holds_second : NodeHoldsEdges false b edges node
+    holds_second = holds_still a b (same_after_one a b Y node on_y) edges node holds_first
+
+    pub has_all : HasAxis true a (round old.told.grid edges) node X → HasAxis true b (round a.told.grid edges) node Y → HasAxis true d (round b.told.grid edges) node Z → HasWorkField d (round old.told.grid edges) node
+    has_all has_x has_y has_z = elim [
+      | X ↦ has_still b d (round old.told.grid edges) node X Z (λ is. cc) on_z (has_still a b (round old.told.grid edges) node X Y (λ is. cc) on_y has_x)
+      | Y ↦ has_still b d (round old.told.grid edges) node Y Z (λ is. cc) on_z (subst (λ (t : Told). HasAxis true b (round t.grid edges) node Y) on_x.told has_y)
+      | Z ↦ subst (λ (t : Told). HasAxis true d (round t.grid edges) node Z) (on_y.told ∙ on_x.told) has_z
+    ]
+
+    pub on_last : (o : Option FaceAbove) → Above old X ≡ None → Above a Y ≡ None → Above b Z ≡ o → First ≡ o
+    on_last o none none_yet is = ap₂ (λ p q. option_or p (option_or q (Above old Z))) none (as_old a Y None on_x.told none_yet) ∙ as_old b Z o (on_y.told ∙ on_x.told) is
+
+-- what holds of an answer's cases, by what holds of them
+pub ok_mapped : {A E P Q : Type 0} (r : Result A E) → (P → Q) → OnOk r P → OnOk r Q
+ok_mapped (Ok done) f is = f is
+ok_mapped (Err e) f is = tt
+
+pub ok_any : {A E P : Type 0} (r : Result A E) → P → OnOk r P
+ok_any (Ok done) is = is
+ok_any (Err e) is = tt
+
+pub err_mapped : {A E : Type 0} (P Q : E → Type 0) (r : Result A E) → ((e : E) → P e → Q e) → IfErr r P → IfErr r Q
+err_mapped P Q (Ok done) f is = tt
+err_mapped P Q (Err e) f is = f e is
 
 -- ---- leaves below a node
 

@@ -28,9 +28,11 @@ use Rattle.mesh_model.proofs.FieldLemmas.LeafEdges.{circulation_adds}
 use Rattle.mesh_model.proofs.FieldLemmas.LeafFaces.{Seen, view_is}
 use Rattle.block_store.specs.Above.{first_in_faces}
 use Rattle.block_store.specs.declared.above.Above.{Above}
+use Rattle.block_store.specs.declared.above.CountedFaces.{CountedFaces}
 use Rattle.block_tree.specs.Numbered.{block_at}
 use Rattle.rank_world.specs.FaceRange.{CountLeafFaces, HasAxis, axis_above, face_above_at, told_face}
 use Rattle.rank_world.specs.Holding.{IsLeafNode, NodeHoldsEdges, stored}
+use Rattle.rank_world.specs.declared.faces.FaceAbove.{FaceAbove}
 use Rattle.rank_world.proofs.FaceBlocks.{leaf_face_seen}
 use Rattle.rank_world.proofs.FaceRange.{at_most, axis_found}
 use Rattle.rank_world.proofs.Found.{face_inside}
@@ -51,7 +53,7 @@ module _ (g : Grid) (valid : Valid g) (edges : EdgeAt → ℤ) where
   curl_seen f seen = view_is g kinds valid.shape wide (curled g edges) (round g edges) (on_leaf_face g (round g edges)) (λ f s. circulation_adds g kinds valid.shape wide edges f) f seen
 
   -- the first leaf face out of range is that of the circulations
-  abbrev told_at : (FaceAt → ℤ) → FaceAt → Bool → Option _
+  abbrev told_at : (FaceAt → ℤ) → FaceAt → Bool → Option FaceAbove
   told_at field f leaf = if leaf && is_above (2 ^ 40) (field f) then Some (record { face = f; value = field f }) else None
 
   same_told : (f : FaceAt) → is_canonical g.shape f ≡ true → face_above_at g (round g edges) f ≡ face_above_at g (curled g edges) f
@@ -134,3 +136,7 @@ told_inside n a sides faces at some =
     let one = mapped_some (told_above a) (first_in_faces faces n (counted a sides)) at some in
     let there = face_inside faces n (counted a sides) one.0 one.1 in
     subst (λ (r : RangeAt). (r.i ≤ n) × (r.j ≤ n) × (r.k ≤ n)) one.2 (at_most a X n one.0.i there.0, at_most a Y n one.0.j there.1, at_most a Z n one.0.k there.2)
+
+-- faces that count, by their axis
+pub as_named : (g : Grid) (b : BlockAt) (f : CountedFaces) (a : Axis) → f.axis ≡ a → CountLeafFaces g b f → CountLeafFaces g b (record { axis = a; low = f.low; high = f.high })
+as_named g b f a is counts = subst (CountLeafFaces g b) (λ i. record { axis = is i; low = f.low; high = f.high }) counts

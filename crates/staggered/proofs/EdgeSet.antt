@@ -1,27 +1,37 @@
 -- An edge that is set in each leaf that has it.
-use Rattle.std.proofs.Common.{◌≡◌, ℕ, ◌+◌, ◌*◌, ◌/◌, ◌<◌, ◌≤◌, Bool, true, false, ◌&&◌, ◌==◌, ℤ, refl, sym, ap, ap₂, subst, ◌∙◌, arith, inl, inr, eq-eqb}
+use Rattle.std.proofs.Common.{◌≡◌, ℕ, ◌+◌, ◌*◌, ◌/◌, ◌%◌, ◌<◌, ◌≤◌, Bool, true, false, ◌&&◌, ◌==◌, List, [], ◌∷◌, drop, get_or, length, set, take, ℤ, pos, Option, Some, None, refl, sym, ap, ap₂, subst, ◌∙◌, arith, inl, inr, eq-eqb}
+use Rattle.std.specs.List.{list_any}
 use Rattle.std.specs.Prelude.{if◌then◌else◌}
-use Rattle.std.proofs.lemmas.Bool.{cases_Bool, cases_lt}
+use Rattle.std.proofs.lemmas.List.{get_or-drop, get_or-set_other, get_or-set_same, get_or-take}
+use Rattle.std.proofs.lemmas.Bool.{and_parts, cases_Bool, cases_lt}
+use Rattle.amr_num.specs.Numbers.{at}
 use Rattle.amr_num.specs.declared.Axis.{Axis}
 use Rattle.amr_num.specs.declared.Axis.TheVariants.{X, Y, Z}
 use Rattle.amr_num.specs.declared.BlockAt.{BlockAt}
+use Rattle.amr_num.specs.declared.CellAt.{CellAt}
 use Rattle.amr_num.specs.declared.EdgeAt.{EdgeAt}
 use Rattle.mesh_model.specs.declared.fields.values.Var.TheVariants.{Edge}
 use Rattle.mesh_model.specs.declared.geometry.Shape.{Shape}
+use Rattle.mesh_model.specs.Fields.ArrayPlaces.{AreRowsWritten, Fits, IsRowWritten, IsSize, edge_extents, row_of}
+use Rattle.mesh_model.specs.Fields.EdgeSplits.{edge_box}
 use Rattle.mesh_model.specs.Fields.FinePlaces.{edges_in}
 use Rattle.mesh_model.specs.Fields.Ranks.{OnlyOf, Told, WorldState}
-use Rattle.mesh_model.specs.Geometry.Coordinates.{edge_numbers, is_same_edge, on}
+use Rattle.mesh_model.specs.Geometry.Coordinates.{above, below, edge_numbers, extent, is_periodic, is_same_edge, moved_twice, next, on}
+use Rattle.mesh_model.specs.Geometry.Places.{longer_across}
 use Rattle.mesh_model.specs.Geometry.Touch.{block_on}
-use Rattle.mesh_model.specs.Tree.Kinds.{Grid, is_leaf_block, is_leaf_edge}
+use Rattle.mesh_model.specs.Tree.Kinds.{Grid, holds, is_leaf, is_leaf_block, is_leaf_edge}
 use Rattle.mesh_model.specs.Tree.Order.{Sorted}
 use Rattle.mesh_model.specs.Tree.ValidGrid.{Valid}
-use Rattle.mesh_model.proofs.FieldLemmas.BlockPlaces.{above_digit}
+use Rattle.mesh_model.proofs.FieldLemmas.BlockPlaces.{above_digit, along_row, next_row, row_y, row_z}
+use Rattle.mesh_model.proofs.FieldLemmas.CellKinds.{Kinds}
+use Rattle.mesh_model.proofs.FieldLemmas.ValidGrid.{kinds}
 use Rattle.mesh_model.proofs.RunLemmas.RunValid.{same_edge}
+use Rattle.mesh_model.proofs.TreeLemmas.Tests.{either_true}
 use Rattle.block_tree.specs.Directions.{edge_name}
 use Rattle.block_tree.specs.Numbered.{block_at}
 use Rattle.rank_world.specs.Holding.{IsLeafNode, LeafEdgesHold, LeavesHoldEdges, OnlyAxes, edge_array}
 use Rattle.rank_world.proofs.EdgeContents.{view_of_leaf_edge}
-use Rattle.staggered.specs.EdgeSetting.{AreEdgesSet, IsEdgePlace, IsEdgeSet, IsNodeSet, edge_number, is_beside, set_or, with_edge}
+use Rattle.staggered.specs.EdgeSetting.{AreEdgesSet, IsEdgePlace, IsEdgeSet, IsNodeSet, edge_number, edges_set, is_beside, set_or, with_edge}
 use Rattle.staggered.proofs.FaceSet.{cases_axis}
 
 same_edges : (a x : Axis) → Edge a ≡ Edge x → a ≡ x
@@ -140,3 +150,107 @@ edges_hold old new at value valid order is field holds node x leaf = record {
       ∙ ap (λ v. set_or at value name v) ((holds node here x).at i j k pl.x pl.y pl.z ∙ view_of_leaf_edge old valid order field name leaf_one)
       ∙ ap (λ (u : Told). with_edge field at value (edge_name u.grid.shape x (block_at u.grid node) i j k)) (sym is.told);
 }
+
+-- ---- a block's array
+
+-- the block's edges stand within it
+pub edges_fit : (n g : ℕ) (a : Axis) → Fits (edge_extents n g a) (edge_box n g a)
+edges_fit n g X = record { x = omega arith; y = omega arith; z = omega arith }
+edges_fit n g Y = record { x = omega arith; y = omega arith; z = omega arith }
+edges_fit n g Z = record { x = omega arith; y = omega arith; z = omega arith }
+
+-- a row of it begins within it
+pub row_place : (n g : ℕ) (a : Axis) (m : ℕ) → IsSize n g → let h = longer_across a Y n in m < h * longer_across a Z n → let e = edge_extents n g a in (g < e.x) × (g + m % h < e.y) × (g + m / h < e.z)
+row_place n g a m size within =
+    let e = edge_extents n g a in
+    let b = edge_box n g a in
+    let fits = edges_fit n g a in
+    let some = some_along a in
+    let x = fits.x in
+    let y = fits.y in
+    let z = fits.z in
+    let on_y = row_y e b fits m within in
+    let on_z = row_z e b fits m within in
+    (omega (arith, x, some), omega (arith, y, on_y), omega (arith, z, on_z))
+  where
+    some_cells : 0 < n
+    some_cells = elim size.cells [ inl four ↦ omega (arith, four) | inr eight ↦ omega (arith, eight) ]
+
+    some_along : (a : Axis) → 0 < longer_across a X n
+    some_along X = some_cells
+    some_along Y = omega arith
+    some_along Z = omega arith
+
+-- what a row of it has after the edge was set
+pub row_number : (n g : ℕ) (s : Shape) (a : Axis) (b : BlockAt) (at : EdgeAt) (value : ℤ) (old : List ℤ) (m start many t : ℕ) → start ≡ row_of (edge_extents n g a) (edge_box n g a) m → t < many →
+    let h = longer_across a Y n in
+    set_or at value (edge_name s a b t (m % h) (m / h)) (get_or (take many (drop start old)) t (pos 0)) ≡ edges_set n g s a b at value old t (m % h) (m / h)
+row_number n g s a b at value old m start many t is less =
+    let h = longer_across a Y n in
+    let e = edge_extents n g a in
+    ap (set_or at value (edge_name s a b t (m % h) (m / h)))
+    (get_or-take many (drop start old) t (pos 0) less ∙ get_or-drop start old t (pos 0) ∙ ap (λ p. get_or old (p + t) (pos 0)) is ∙ ap (λ p. get_or old p (pos 0)) (sym (along_row e g t (g + m % h) (g + m / h))))
+
+-- one number more of a row is set, and those after it wait
+module _ (out old : List ℤ) (t : ℕ) (x : ℤ) (want : ℕ → ℤ → ℤ) (inside : t < length out) (waits : (p : ℕ) → t ≤ p → at out p ≡ at old p) where
+  pub one_more_set : ((p : ℕ) → p < t → at out p ≡ want p (at old p)) → x ≡ want t (at out t) → (p : ℕ) → p < t + 1 → at (set out t x) p ≡ want p (at old p)
+  one_more_set done is p h = elim (cases_lt p t) [
+    | inl less ↦ get_or-set_other out t p x (pos 0) (λ e. omega (arith, e, less)) ∙ done p less
+    | inr more ↦ (let last : p ≡ t = omega (arith, h, more) in ap (at (set out t x)) last ∙ get_or-set_same out t x (pos 0) inside ∙ is ∙ ap (want t) (waits t (omega arith)) ∙ ap (λ q. want q (at old q)) (sym last))
+  ]
+
+  pub others_wait : (p : ℕ) → t + 1 ≤ p → at (set out t x) p ≡ at old p
+  others_wait p h = get_or-set_other out t p x (pos 0) (λ e. omega (arith, e, h)) ∙ waits p (omega (arith, h))
+
+-- a row that waits has what it had
+pub row_waits : (n g : ℕ) (s : Shape) (a : Axis) (b : BlockAt) (at : EdgeAt) (value : ℤ) (old now : List ℤ) (m : ℕ) → AreRowsWritten m (edge_extents n g a) (edge_box n g a) (edges_set n g s a b at value old) old now →
+    let h = longer_across a Y n in
+    m < h * longer_across a Z n → (t : ℕ) → t < longer_across a X n → edges_set n g s a b at value now t (m % h) (m / h) ≡ edges_set n g s a b at value old t (m % h) (m / h)
+row_waits n g s a b at value old now m so_far within t less =
+    let h = longer_across a Y n in
+    ap (set_or at value (edge_name s a b t (m % h) (m / h))) (next_row (edge_extents n g a) (edge_box n g a) (edges_fit n g a) m (edges_set n g s a b at value old) old now within so_far t less)
+
+-- what a row is written with, by numbers that are the same
+pub row_as : (start many : ℕ) (wanted meant : ℕ → ℤ) (old new : List ℤ) → ((t : ℕ) → t < many → wanted t ≡ meant t) → IsRowWritten start many wanted old new → IsRowWritten start many meant old new
+row_as start many wanted meant old new same row = record { size = row.size; here = λ t h. row.here t h ∙ same t h; below = row.below; above = row.above }
+
+-- ---- levels of leaf edges
+
+pub leaf_edge_level : (g : Grid) → Valid g → (e : EdgeAt) → is_leaf_edge g e ≡ true → e.level ≤ 10
+unfolding is_leaf_edge
+leaf_edge_level g valid e h =
+    let top = valid.shape.max in
+    let s = g.shape in
+    let b = next e.axis in
+    let c = edge_numbers e in
+    of_some (kinds g valid) b (next b) c (below (is_periodic s b) (extent s b e.level) (on b c)) (above (is_periodic s b) (extent s b e.level) (on b c))
+    (below (is_periodic s (next b)) (extent s (next b) e.level) (on (next b) c)) (above (is_periodic s (next b)) (extent s (next b) e.level) (on (next b) c)) top (and_parts _ _ h).0
+  where
+    of_one : Kinds g → (b d : Axis) (c : CellAt) (o r : Option ℕ) → holds (is_leaf g) (moved_twice b o d r c) ≡ true → c.level ≤ g.shape.max
+    of_one k b d c None r h = cc
+    of_one k b d c (Some p) None h = cc
+    of_one k X X c (Some p) (Some q) h = k.leaf_top _ h
+    of_one k X Y c (Some p) (Some q) h = k.leaf_top _ h
+    of_one k X Z c (Some p) (Some q) h = k.leaf_top _ h
+    of_one k Y X c (Some p) (Some q) h = k.leaf_top _ h
+    of_one k Y Y c (Some p) (Some q) h = k.leaf_top _ h
+    of_one k Y Z c (Some p) (Some q) h = k.leaf_top _ h
+    of_one k Z X c (Some p) (Some q) h = k.leaf_top _ h
+    of_one k Z Y c (Some p) (Some q) h = k.leaf_top _ h
+    of_one k Z Z c (Some p) (Some q) h = k.leaf_top _ h
+
+    of_some : Kinds g → (b d : Axis) (c : CellAt) (p q r s : Option ℕ) → g.shape.max ≤ 10 →
+        list_any (holds (is_leaf g)) (moved_twice b p d r c ∷ moved_twice b q d r c ∷ moved_twice b p d s c ∷ moved_twice b q d s c ∷ []) ≡ true → c.level ≤ 10
+    of_some k b d c p q r s top h = elim (either_true _ _ h) [
+      | inl l ↦ (let deep = of_one k b d c p r l in omega (arith, deep, top))
+      | inr more ↦ elim (either_true _ _ more) [
+          | inl l ↦ (let deep = of_one k b d c q r l in omega (arith, deep, top))
+          | inr rest ↦ elim (either_true _ _ rest) [
+              | inl l ↦ (let deep = of_one k b d c p s l in omega (arith, deep, top))
+              | inr last ↦ elim (either_true _ _ last) [
+                  | inl l ↦ (let deep = of_one k b d c q s l in omega (arith, deep, top))
+                  | inr none ↦ absurd cc
+                ]
+            ]
+        ]
+    ]

@@ -14,14 +14,14 @@ ghost use Rattle.rank_world.specs.Holding.{IsLeafNode, LeavesHoldEdges, LeavesHo
 ghost use Rattle.staggered.specs.Curling.{AreEdgesSmall, HasLeafEdges, HaveCirculations, IsFacesTaken, OnlyFacesAndWork, edge_arrays, round};
 ghost use Rattle.staggered.specs.Facing.{walked_above};
 ghost use Rattle.step_induct.specs.Circling.{IsCirculated, circled, counted, edges_of, first_above};
-ghost use Rattle.std.specs.Prelude.{◌≡◌, ◌<◌, ℤ, None, Some, OnOk, IfErr};
+ghost use Rattle.std.specs.Prelude.{◌≡◌, ◌<◌, ◌≤◌, ℤ, true, false, None, Some, OnOk, IfErr};
 
 use amr_num::{Axis, BlockAt};
 use block_store::{Above, Beside};
 use block_tree::Tree;
 use mesh_model::Var;
 use rank_world::{FaceAbove, World, face_told, leaf_faces};
-use step_induct::{RangeAt, curl as circulate};
+use step_induct::{RangeAt, curl};
 
 /// On which sides of a leaf its faces are leaf faces, in the order x low, x high, y low, y high, z low, z high.
 fn leaf_sides(tree: &Tree, block: BlockAt) -> [bool; 6]
@@ -57,7 +57,7 @@ fn circle_axis<const N: usize, const G: usize>(
         Var::Edge(Axis::Z),
     ];
     let Beside { a, b, c, d: _, out } = world.beside(node, reads, Var::FaceWork(axis));
-    circulate::<N, G>(axis, a, b, c, sides, out)
+    curl::<N, G>(axis, a, b, c, sides, out)
 }
 
 /// What is told of a face of a leaf that is out of range.
@@ -94,6 +94,8 @@ fn curl_axis<const N: usize, const G: usize>(
     ensures refused { (edges : EdgeAt → ℤ) → NodeHoldsEdges false world.old edges node
         → IfErr result (λ told. above.axis_above world.old.told.grid (curled world.old.told.grid edges) (block_at world.old.told.grid node) axis ≡ Some told) }
 {
+    let tree = world.tree();
+    let _block = tree.at(node);
     match circle_axis(world, node, axis, sides) {
         Ok(()) => Ok(()),
         Err(found) => Err(told(world, node, found)),

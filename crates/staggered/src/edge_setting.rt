@@ -51,6 +51,14 @@ struct Row {
     k: usize,
 }
 
+/// A block and its array of edges: `n` cells along each axis, and `g` guard cells on each side.
+#[derive(Clone, Copy)]
+struct BlockArray {
+    n: usize,
+    g: usize,
+    block: BlockAt,
+}
+
 /// The three numbers of an edge.
 fn numbers(e: EdgeAt) -> CellAt
     ensures { result ≡ coordinates.edge_numbers e }
@@ -174,6 +182,17 @@ fn is_same(e: EdgeAt, other: EdgeAt) -> bool
         && e.z == other.z
 }
 
+/// What an edge has after the target was set: the target's number where it is that edge, and else what it had.
+fn number_of(target: &Target, edge: EdgeAt, old: i64) -> i64
+    ensures { result ≡ set_or target.now.edge target.now.value edge old }
+{
+    if is_same(edge, target.edge) {
+        target.value
+    } else {
+        old
+    }
+}
+
 /// Sets the edge in a row of a block, where it stands in it.
 fn set_in_row(shape: &Shape, row: Row, target: &Target, out: &mut [i64])
     requires shape { IsShape shape.now }
@@ -186,44 +205,44 @@ fn set_in_row(shape: &Shape, row: Row, target: &Target, out: &mut [i64])
 {
     for t in 0..out.len() {
         let name = name_of(shape, row.block, row.axis, t, row.j, row.k);
-        if is_same(name, target.edge) {
-            out[t] = target.value;
-        }
+        out[t] = number_of(target, name, out[t]);
     }
 }
 
 /// Sets the edge in the `m`-th row of a block's edges along its axis.
-fn set_row(shape: &Shape, g: usize, block: BlockAt, target: &Target, m: usize, values: &mut [i64])
+fn set_row(shape: &Shape, array: BlockArray, target: &Target, m: usize, values: &mut [i64])
     requires shape { IsShape shape.now }
-    requires size { IsSize shape.now.n g }
-    requires block { IsSmallBlock block }
-    requires row { let a = target.now.edge.axis in m < longer_across a Y shape.now.n * longer_across a Z shape.now.n }
-    requires values { length values.old ≡ size_of (edge_extents shape.now.n g target.now.edge.axis) }
-    ensures { let n = shape.now.n in let a = target.now.edge.axis in let h = longer_across a Y n in
+    requires size { IsSize array.n array.g }
+    requires cells { shape.now.n ≡ array.n }
+    requires block { IsSmallBlock array.block }
+    requires row { let a = target.now.edge.axis in m < longer_across a Y array.n * longer_across a Z array.n }
+    requires values { length values.old ≡ size_of (edge_extents array.n array.g target.now.edge.axis) }
+    ensures { let n = array.n in let g = array.g in let a = target.now.edge.axis in let h = longer_across a Y n in
         IsRowWritten (row_of (edge_extents n g a) (edge_box n g a) m) (longer_across a X n)
-        (λ t. edges_set n g shape.now a block target.now.edge target.now.value values.old t (m % h) (m / h)) values.old values.new }
+        (λ t. edges_set n g shape.now a array.block target.now.edge target.now.value values.old t (m % h) (m / h)) values.old values.new }
 {
-    let n = shape.n as usize;
+    let BlockArray { n, g, block } = array;
     let axis = target.edge.axis;
     let many = Extents::of_block_edges(n, axis);
     let j = m % many.y;
     let k = m / many.y;
-    let to = place(Extents::of(n, g, Var::Edge(axis)), g, g + j, g + k);
+    let to = place(Extents::of_edges(n, g, axis), g, g + j, g + k);
     let row = Row { block, axis, j, k };
     set_in_row(shape, row, target, &mut values[to..to + many.x]);
 }
 
 /// Sets the edge in a block's array of edges along its axis, at each place where it stands.
-fn set_rows(shape: &Shape, g: usize, block: BlockAt, target: &Target, values: &mut [i64])
+fn set_rows(shape: &Shape, array: BlockArray, target: &Target, values: &mut [i64])
     requires shape { IsShape shape.now }
-    requires size { IsSize shape.now.n g }
-    requires block { IsSmallBlock block }
-    requires values { length values.old ≡ size_of (edge_extents shape.now.n g target.now.edge.axis) }
-    ensures { AreEdgesSet shape.now.n g shape.now target.now.edge.axis block target.now.edge target.now.value values.old values.new }
+    requires size { IsSize array.n array.g }
+    requires cells { shape.now.n ≡ array.n }
+    requires block { IsSmallBlock array.block }
+    requires values { length values.old ≡ size_of (edge_extents array.n array.g target.now.edge.axis) }
+    ensures { AreEdgesSet array.n array.g shape.now target.now.edge.axis array.block target.now.edge target.now.value values.old values.new }
 {
-    let many = Extents::of_block_edges(shape.n as usize, target.edge.axis);
+    let many = Extents::of_block_edges(array.n, target.edge.axis);
     for m in 0..many.y * many.z {
-        set_row(shape, g, block, target, m, values);
+        set_row(shape, array, target, m, values);
     }
 }
 
@@ -237,9 +256,13 @@ fn set_leaf<const N: usize, const G: usize>(world: &mut World<N, G>, node: u32, 
 {
     let tree = world.tree();
     let shape = tree.shape();
-    let block = tree.at(node);
+    let array = BlockArray {
+        n: N,
+        g: G,
+        block: tree.at(node),
+    };
     let values = world.values_mut(Var::Edge(target.edge.axis), node);
-    set_rows(&shape, G, block, target, values);
+    set_rows(&shape, array, target, values);
 }
 
 /// Whether an edge lies on a block's level, and along the axis where the block does: others do not have it.

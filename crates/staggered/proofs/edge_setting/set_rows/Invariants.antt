@@ -5,6 +5,7 @@ use Rattle.staggered.proofs.edge_setting.set_rows.Given as goal
 
 abbrev pub invariant-loop-m : goal.invariant-loop-m
 invariant-loop-m l =
-    let n = l.shape.n in
+    let n = l.array.n in
+    let g = l.array.g in
     let a = l.target.edge.axis in
-    AreRowsWritten l.m (edge_extents n l.g a) (edge_box n l.g a) (edges_set n l.g l.shape a l.block l.target.edge l.target.value l.initial.values) l.initial.values l.values
+    AreRowsWritten l.m (edge_extents n g a) (edge_box n g a) (edges_set n g l.shape a l.array.block l.target.edge l.target.value l.initial.values) l.initial.values l.values

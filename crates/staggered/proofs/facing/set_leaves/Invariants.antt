@@ -1,3 +1,4 @@
+use Rattle.mesh_model.specs.declared.fields.values.Var.TheVariants.{Face}
 use Rattle.rank_world.specs.Holding.{OnlyAxes}
 use Rattle.mesh_model.specs.Fields.Advect.{three}
 use Rattle.mesh_model.specs.Fields.Ranks.{IsFit}
