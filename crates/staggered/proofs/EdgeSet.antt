@@ -244,13 +244,13 @@ leaf_edge_level g valid e h =
     of_some k b d c p q r s top h = elim (either_true _ _ h) [
       | inl l ↦ (let deep = of_one k b d c p r l in omega (arith, deep, top))
       | inr more ↦ elim (either_true _ _ more) [
-          | inl l ↦ (let deep = of_one k b d c q r l in omega (arith, deep, top))
-          | inr rest ↦ elim (either_true _ _ rest) [
-              | inl l ↦ (let deep = of_one k b d c p s l in omega (arith, deep, top))
-              | inr last ↦ elim (either_true _ _ last) [
-                  | inl l ↦ (let deep = of_one k b d c q s l in omega (arith, deep, top))
-                  | inr none ↦ absurd cc
-                ]
-            ]
+        | inl l ↦ (let deep = of_one k b d c q r l in omega (arith, deep, top))
+        | inr rest ↦ elim (either_true _ _ rest) [
+          | inl l ↦ (let deep = of_one k b d c p s l in omega (arith, deep, top))
+          | inr last ↦ elim (either_true _ _ last) [
+            | inl l ↦ (let deep = of_one k b d c q s l in omega (arith, deep, top))
+            | inr none ↦ absurd cc
+          ]
         ]
+      ]
     ]
