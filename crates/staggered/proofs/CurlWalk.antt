@@ -6,15 +6,13 @@ use Rattle.amr_num.specs.declared.Axis.{Axis}
 use Rattle.amr_num.specs.declared.Axis.TheVariants.{X, Y, Z}
 use Rattle.amr_num.specs.declared.EdgeAt.{EdgeAt}
 use Rattle.amr_num.specs.declared.FaceAt.{FaceAt}
-use Rattle.mesh_model.specs.declared.fields.values.Var.{Var}
 use Rattle.mesh_model.specs.declared.fields.values.Var.TheVariants.{Edge, Face, FaceWork}
 use Rattle.mesh_model.specs.Fields.ArrayPlaces.{HoldsEdges, HoldsFaceField, HoldsFaces}
-use Rattle.mesh_model.specs.Fields.Arrays.{array_in}
 use Rattle.mesh_model.specs.Fields.FinePlaces.{edges_in, faces_in}
 use Rattle.mesh_model.specs.Fields.FaceSplits.{by_axis}
 use Rattle.mesh_model.specs.Fields.Induct.{curled}
-use Rattle.mesh_model.specs.Fields.Ranks.{IsFit, OnlyOf, Told, WorldState, rank_at}
-use Rattle.mesh_model.specs.Tree.Kinds.{Grid, is_leaf_block}
+use Rattle.mesh_model.specs.Fields.Ranks.{IsFit, OnlyOf, Told, WorldState}
+use Rattle.mesh_model.specs.Tree.Kinds.{is_leaf_block}
 use Rattle.mesh_model.specs.Tree.ValidGrid.{Valid}
 use Rattle.mesh_model.proofs.FieldLemmas.FirstFound.{one_more_none}
 use Rattle.block_tree.specs.Numbered.{block_at}
@@ -23,7 +21,7 @@ use Rattle.rank_world.specs.declared.faces.FaceAbove.{FaceAbove}
 use Rattle.rank_world.specs.Holding.{IsLeafNode, LeavesHoldEdges, LeavesHoldFaces, NodeHoldsEdges, OnlyAxes, OnlyAxesOf, edge_array, face_array, stored}
 use Rattle.rank_world.proofs.FaceBlocks.{leaf_face_seen}
 use Rattle.step_induct.specs.Circling.{AreEdgeArrays}
-use Rattle.staggered.specs.Curling.{AreEdgesSmall, HasLeafEdges, HaveCirculations, IsFacesTaken, OnlyFacesAndWork, edge_arrays, round}
+use Rattle.staggered.specs.Curling.{HasLeafEdges, HaveCirculations, IsFacesTaken, OnlyFacesAndWork, edge_arrays, round}
 use Rattle.staggered.specs.Facing.{above_below, node_above}
 use Rattle.staggered.proofs.Curled.{curl_seen}
 

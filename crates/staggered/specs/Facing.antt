@@ -5,12 +5,11 @@ use Rattle.amr_num.specs.declared.Axis.{Axis}
 use Rattle.amr_num.specs.declared.BlockAt.{BlockAt}
 use Rattle.amr_num.specs.declared.FaceAt.{FaceAt}
 use Rattle.mesh_model.specs.Fields.Advect.{Speeds, speed}
-use Rattle.mesh_model.specs.Fields.Arrays.{array_in, var_length}
+use Rattle.mesh_model.specs.Fields.Arrays.{var_length}
 use Rattle.mesh_model.specs.Fields.Firsts.{first_below}
 use Rattle.mesh_model.specs.Fields.RangeWalk.{faces_walked, is_above}
-use Rattle.mesh_model.specs.Fields.Ranks.{IsFit, WorldState, rank_at}
+use Rattle.mesh_model.specs.Fields.Ranks.{IsFit, WorldState}
 use Rattle.mesh_model.specs.Tree.Kinds.{Grid, is_leaf_block, is_leaf_face}
-use Rattle.mesh_model.specs.declared.fields.values.Var.{Var}
 use Rattle.mesh_model.specs.declared.fields.values.Var.TheVariants.{Face}
 use Rattle.block_tree.specs.Beside.{finer_beside}
 use Rattle.block_tree.specs.Numbered.{block_at}

@@ -1,10 +1,9 @@
 use Rattle.std.proofs.Common.{◌≡◌, Err, IfErr, None, Some, ap, arith, subst, sym, ◌∙◌}
 use Rattle.std.proofs.lemmas.Result.{err_from_is_err_and}
-use Rattle.amr_num.specs.declared.Axis.{Axis}
 use Rattle.amr_num.specs.declared.Axis.TheVariants.{X, Y, Z}
 use Rattle.block_tree.specs.Numbered.{block_at}
 use Rattle.mesh_model.specs.Fields.Induct.{curled}
-use Rattle.mesh_model.specs.Fields.Ranks.{Told, WorldState}
+use Rattle.mesh_model.specs.Fields.Ranks.{Told}
 use Rattle.mesh_model.specs.Tree.Kinds.{Grid}
 use Rattle.rank_world.specs.FaceRange.{CountLeafFaces, axis_above, first_above}
 use Rattle.rank_world.specs.declared.faces.FaceAbove.{FaceAbove}

@@ -1,5 +1,4 @@
-use Rattle.std.proofs.Common.{ap, arith, length, sym, subst, ◌∙◌}
-use Rattle.mesh_model.specs.Fields.Ranks.{Told}
+use Rattle.std.proofs.Common.{ap, arith, length, ◌∙◌}
 use Rattle.mesh_model.specs.Tree.Kinds.{Grid}
 use Rattle.mesh_model.specs.Tree.Order.{nodes}
 use Rattle.staggered.proofs.EdgeSet.{all_set, node_more, only_more}

@@ -1,7 +1,7 @@
-use Rattle.std.proofs.Common.{◌≡◌, ◌+◌, ◌*◌, ◌/◌, ◌%◌, ◌<◌, ℕ, ℤ, ap, rules, subst, sym}
+use Rattle.std.proofs.Common.{◌≡◌, ◌*◌, ◌/◌, ◌%◌, ◌<◌, ℕ, ℤ, rules, subst}
 use Rattle.amr_num.specs.declared.Axis.TheVariants.{X, Y, Z}
 use Rattle.mesh_model.specs.Geometry.Places.{longer_across}
-use Rattle.mesh_model.specs.Fields.ArrayPlaces.{IsRowWritten, edge_extents, row_of}
+use Rattle.mesh_model.specs.Fields.ArrayPlaces.{edge_extents, row_of}
 use Rattle.mesh_model.specs.Fields.EdgeSplits.{edge_box}
 use Rattle.mesh_model.proofs.FieldLemmas.BlockPlaces.{one_more_row}
 use Rattle.staggered.specs.EdgeSetting.{edges_set}
