@@ -1,8 +1,9 @@
 -- The halves of a leaf's edges round which finer leaves stand: they are leaf edges, and edges of the children of each split block round them.
-use Rattle.std.proofs.Common.{◌≡◌, ℕ, suc, ◌+◌, ◌*◌, ◌/◌, ◌%◌, ◌<◌, ◌≤◌, ◌⊎◌, Bool, true, false, not, ◌||◌, ℤ, refl, sym, ap, ap₂, subst, ◌∙◌, arith, inl, inr}
+use Rattle.std.proofs.Common.{◌≡◌, ℕ, suc, ◌+◌, ◌*◌, ◌/◌, ◌%◌, ◌<◌, ◌≤◌, ◌⊎◌, Bool, true, false, not, ◌||◌, ℤ, pos, ◌+ℤ◌, refl, sym, ap, ap₂, subst, ◌∙◌, arith, inl, inr}
 use Rattle.std.specs.Prelude.{if◌then◌else◌}
 use Rattle.std.proofs.lemmas.Bool.{cases_Bool}
-use Rattle.amr_num.specs.Numbers.{sum_below}
+use Rattle.std.proofs.lemmas.Int.{ints}
+use Rattle.amr_num.specs.Numbers.{Within, sum_below}
 use Rattle.amr_num.proofs.Parts.{sum_below_same}
 use Rattle.amr_num.specs.declared.Axis.{Axis}
 use Rattle.amr_num.specs.declared.Axis.TheVariants.{X, Y, Z}
@@ -29,9 +30,10 @@ use Rattle.block_tree.proofs.Leaves.{split_leaf}
 use Rattle.block_tree.proofs.RoundBlocks.{high_step, low_step, round_is}
 use Rattle.block_tree.proofs.RoundEdges.{across_most, ends, four_some, leaf_edge_of_leaf, part_of, whole_edge}
 use Rattle.edge_average.specs.EdgeArrays.{IsNear}
+use Rattle.edge_average.specs.Laws.{IsOwnView, IsViewOfHalves, LeafEdgeViewsAreHalves, LeafEdgeViewsAreSmall}
 use Rattle.edge_average.specs.Lines.{IsEdgePlace, child_on, edge_there, half_with, halved, has_finer, line_part, line_place, octant_at, place_within, sum_of_halves}
 use Rattle.edge_average.proofs.LineNames.{child_name, level_there, within_most}
-use Rattle.edge_average.proofs.LinePlaces.{at_line}
+use Rattle.edge_average.proofs.LinePlaces.{at_line, by_line}
 use Rattle.edge_average.proofs.NearBlocks.{calm_round, child_inside}
 
 -- ---- the edges of a block by lines
@@ -40,6 +42,12 @@ part_is : (n : ℕ) (a : Axis) (p q r : ℕ) → part_of n a (line_place a p q r
 part_is n X p q r = refl
 part_is n Y p q r = refl
 part_is n Z p q r = refl
+
+own_block : (g : Grid) (b : BlockAt) (a : Axis) → passes (is_split_block g) (block_toward g.shape (across a 1 1) b) ≡ is_split_block g b
+unfolding block_toward
+own_block g b X = refl
+own_block g b Y = refl
+own_block g b Z = refl
 
 one_in : (n p : ℕ) → 0 < n → p ≤ n → (1 ≡ low_step p) ⊎ (1 ≡ high_step n p)
 one_in n p some h = elim (ends n p some h) [
@@ -58,14 +66,7 @@ module _ (g : Grid) (b : BlockAt) (some : 0 < g.shape.n) (inside : InDomain g.sh
       ∙ ap (lies_round g false b) (part_is g.shape.n a p q r)
 
   own_toward : passes (is_split_block g) (block_toward g.shape (across a 1 1) b) ≡ is_split_block g b
-  unfolding block_toward
-  own_toward = at a
-    where
-      at : (c : Axis) → passes (is_split_block g) (block_toward g.shape (across c 1 1) b) ≡ is_split_block g b
-      unfolding block_toward
-      at X = refl
-      at Y = refl
-      at Z = refl
+  own_toward = own_block g b a
 
   -- and of a split block each has
   pub self_split : is_split_block g b ≡ true → is_split_edge g (edge_there g.shape a b p q r) ≡ true
@@ -158,6 +159,36 @@ module _ (g : Grid) (valid : Valid g) (b : BlockAt) (leaf : is_leaf_block g b �
           | inl split ↦ view_of_halves p q r place split field ∙ ap (λ (u : Bool). if u then sum_of_halves field e else field e) (sym split)
           | inr calm ↦ own_view field calm ∙ ap (λ (u : Bool). if u then sum_of_halves field e else field e) (sym calm)
         ]
+
+-- ---- the laws
+
+module _ (g : Grid) (field : EdgeAt → ℤ) (b : BlockAt) (a : Axis) (valid : Valid g) (leaf : is_leaf_block g b ≡ true) where
+  one_of_two : (p q r : ℕ) → IsEdgePlace g.shape.n p q r → let e = edge_there g.shape a b p q r in IsOwnView g field e ⊎ IsViewOfHalves g field e
+  one_of_two p q r place = elim (cases_Bool (is_split_edge g (edge_there g.shape a b p q r))) [
+    | inl split ↦ inr (record {
+      split = split;
+      leaves = half_leaf g valid b leaf a p q r place split;
+      view = view_of_halves g valid b leaf a p q r place split field;
+    })
+    | inr calm ↦ inl (record { leaf = calm_leaf g valid b leaf a p q r place calm; view = own_view g valid b leaf a p q r place field calm })
+  ]
+
+pub views_are_halves : LeafEdgeViewsAreHalves
+unfolding edge_there
+views_are_halves g field b a i j k valid leaf hi hj hk =
+    by_line (λ i j k. let e = edge_name g.shape a b i j k in IsOwnView g field e ⊎ IsViewOfHalves g field e) a g.shape.n (one_of_two g field b a valid leaf) i j k hi hj hk
+
+two_small : (most : ℕ) (v w : ℤ) → Within most v → Within most w → Within (2 * most) ((pos 0 +ℤ v) +ℤ w)
+two_small most v w hv hw = omega (arith, ints)
+
+pub views_are_small : LeafEdgeViewsAreSmall
+views_are_small g field most b a i j k valid leaf small hi hj hk =
+    let e = edge_name g.shape a b i j k in
+    elim (views_are_halves g field b a i j k valid leaf hi hj hk) [
+      | inl own ↦ subst (Within (2 * most)) (sym own.view) (let one = small e own.leaf in omega (arith, ints, one))
+      | inr halves ↦ subst (Within (2 * most)) (sym halves.view)
+          (two_small most (field (half_edge e 0)) (field (half_edge e 1)) (small (half_edge e 0) (halves.leaves 0 (omega arith))) (small (half_edge e 1) (halves.leaves 1 (omega arith))))
+    ]
 
 -- ---- the children of a split block round a line
 

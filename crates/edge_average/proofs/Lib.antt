@@ -2,5 +2,5 @@ pub mod NearBlocks
 pub mod LineNames
 pub mod HalfEdges
 pub mod LinePlaces
-pub mod Lines
+pub mod Readings
 pub mod Worlds
