@@ -38,7 +38,7 @@ use Rattle.edge_average.proofs.NearBlocks.{calm_round, child_inside}
 
 -- ---- the edges of a block by lines
 
-part_is : (n : ℕ) (a : Axis) (p q r : ℕ) → part_of n a (line_place a p q r).x (line_place a p q r).y (line_place a p q r).z ≡ line_part n a q r
+pub part_is : (n : ℕ) (a : Axis) (p q r : ℕ) → part_of n a (line_place a p q r).x (line_place a p q r).y (line_place a p q r).z ≡ line_part n a q r
 part_is n X p q r = refl
 part_is n Y p q r = refl
 part_is n Z p q r = refl

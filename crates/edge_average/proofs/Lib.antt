@@ -4,3 +4,4 @@ pub mod HalfEdges
 pub mod LinePlaces
 pub mod Readings
 pub mod Worlds
+pub mod Rounds

@@ -129,3 +129,35 @@ module _ (work : Bool) (w : WorldState) (node : ℕ) (a : Axis) (s t : ℕ) (d :
 
   pub line_taken : (n e : ℕ) → IsSized n e w.told.grid.shape → Given n e
   line_taken n e sized = subst (λ m. Given m e) sized.cells (subst (λ k. Given w.told.grid.shape.n k) sized.guards taken_there)
+
+-- ---- the same in the words of the calls
+
+module _ (work : Bool) (w : WorldState) (valid : Valid w.told.grid) (n e : ℕ) (sized : IsSized n e w.told.grid.shape) (a : Axis) (d : BlockAt) (u v : ℕ) (hu : u ≤ n) (hv : v ≤ n) (near : IsNear w.told.grid a d u v)
+    (h : ℕ) (hh : h < 2) (k : ℕ) (is : IsNumberOf w.told.grid (child_on n a d h u v) k) (x : Axis) (q r : ℕ) (on_axis : x ≡ a) (on_first : q ≡ place_within n u) (on_second : r ≡ place_within n v) where
+  abbrev s : Shape
+  s = w.told.grid.shape
+
+  first_most : u ≤ s.n
+  first_most = subst (λ m. u ≤ m) (sym sized.cells) hu
+
+  second_most : v ≤ s.n
+  second_most = subst (λ m. v ≤ m) (sym sized.cells) hv
+
+  number : IsNumberOf w.told.grid (child_on s.n a d h u v) k
+  number = subst (λ m. IsNumberOf w.told.grid (child_on m a d h u v) k) (sym sized.cells) is
+
+  pub near_small : IsTame work w → (p : ℕ) → p < s.n → Within (2 ^ 56) (edge_stored work w x k p q r)
+  near_small tame p hp =
+      subst (λ y. Within (2 ^ 56) (edge_stored work w y k p q r)) (sym on_axis)
+      (subst (λ y. Within (2 ^ 56) (edge_stored work w a k p y r)) (sym (on_first ∙ ap (λ m. place_within m u) (sym sized.cells)))
+      (subst (λ y. Within (2 ^ 56) (edge_stored work w a k p (place_within s.n u) y)) (sym (on_second ∙ ap (λ m. place_within m v) (sym sized.cells)))
+      (child_within work w valid a d u v first_most second_most near h hh k number tame p hp)))
+
+  pub near_pair : (field : EdgeAt → ℤ) → LeafEdgesHold work w field → (i : ℕ) → i < n / 2 →
+      pair_at n e x (edge_array work w x k) i q r ≡ sum_of_halves field (edge_there s a d (n / 2 * h + i) u v)
+  near_pair field holds i hi =
+      ap (λ y. pair_at n e y (edge_array work w y k) i q r) on_axis ∙ ap (λ y. pair_at n e a (edge_array work w a k) i y r) on_first ∙ ap (λ y. pair_at n e a (edge_array work w a k) i (place_within n u) y) on_second
+      ∙ pair_near work w valid a d u v first_most second_most near h hh k number n e sized field holds i hi
+
+pub next_half : (h k : ℕ) → h * (k + 1) ≡ h * k + h
+next_half h k = grind arith

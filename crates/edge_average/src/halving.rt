@@ -135,11 +135,11 @@ fn agree_line<const N: usize, const G: usize>(
     ensures halved { AreHalved work N G world.old world.new }
     ensures line { (field : EdgeAt → ℤ) → LeafEdgesHold work world.old field → LineHolds work world.new field node line.axis line.first line.second }
 {
+    let tree = world.tree();
     let part = part_of(N, line);
     if !is_kept(parts, part) {
         return;
     }
-    let tree = world.tree();
     match node_round(tree, false, direction_at(part), tree.at(node)) {
         Some(Round { node: finer, toward }) => {
             take_sums(world, work, node, line, finer, line_beyond(N, toward, line));
