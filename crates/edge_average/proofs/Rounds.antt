@@ -1,5 +1,7 @@
 -- What is found round a line of a leaf: a split block, in whose children the halves of the line's edges lie.
-use Rattle.std.proofs.Common.{◌≡◌, ℕ, ◌*◌, ◌/◌, ◌<◌, ◌≤◌, ◌⊎◌, Bool, true, false, refl, sym, ap, ap₂, subst, ◌∙◌, arith, inl, inr}
+use Rattle.std.proofs.Common.{◌≡◌, ℕ, ◌*◌, ◌/◌, ◌%◌, ◌<◌, ◌≤◌, ◌⊎◌, Bool, true, false, ◌==◌, refl, sym, ap, ap₂, subst, ◌∙◌, arith, inl, inr}
+use Rattle.std.proofs.Math.Nat.{div-eq_of_lt}
+use Rattle.std.proofs.lemmas.Nat.{pow_pos}
 use Rattle.amr_num.specs.declared.Axis.{Axis}
 use Rattle.amr_num.specs.declared.Axis.TheVariants.{X, Y, Z}
 use Rattle.amr_num.specs.declared.BlockAt.{BlockAt}
@@ -18,7 +20,7 @@ use Rattle.block_tree.specs.Numbered.{block_at}
 use Rattle.block_tree.specs.declared.directions.Direction.{Direction}
 use Rattle.block_tree.specs.declared.directions.Round.{Round}
 use Rattle.block_tree.proofs.Leaves.{split_leaf}
-use Rattle.block_tree.proofs.RoundEdges.{direction_is, part_of}
+use Rattle.block_tree.proofs.RoundEdges.{direction_few, direction_is, part_of}
 use Rattle.edge_average.specs.EdgeArrays.{IsNear}
 use Rattle.edge_average.specs.Lines.{IsEdgePlace, beyond, edge_there, has_finer, line_part, line_place, step_on}
 use Rattle.edge_average.proofs.HalfEdges.{inside_of, is_near, part_is}
@@ -103,3 +105,15 @@ module _ (g : Grid) (valid : Valid g) (n e : ℕ) (sized : IsSized n e g.shape) 
   pub near_round : IsNear g a d u v
   near_round =
       is_near g valid b leaf a s t (to_shape s hs) (to_shape t ht) stands_round d inside split (split_level g valid.tiles valid.shape.max d split) u v (to_shape u first_most) (to_shape v second_most) same_names
+
+-- ---- where no bit stands
+
+no_bit : (d : ℕ) → is_kept 0 d ≡ false
+no_bit d = ap (λ m. m % 2 == 1) (div-eq_of_lt (pow_pos d))
+
+pub none_stand : (g : Grid) → Valid g → (n e : ℕ) → IsSized n e g.shape → (b : BlockAt) (parts : ℕ) → AreParts g false b 27 parts → parts ≡ 0 → (a : Axis) (s t : ℕ) → s ≤ n → t ≤ n → has_finer g a b s t ≡ false
+none_stand g valid n e sized b parts are none a s t hs ht =
+    let some : 0 < n = subst (λ m. 0 < m) sized.cells (cells_some valid.shape) in
+    let part = edge_direction n a (line_place a 0 s t).x (line_place a 0 s t).y (line_place a 0 s t).z in
+    let few : part < 27 = at_line (λ i j k. edge_direction n a i j k < 27) a n (direction_few n some a) 0 s t (record { along = some; first = hs; second = ht }) in
+    sym (bit_means g valid n e sized a s t hs ht part refl b parts are few) ∙ ap (λ m. is_kept m part) none ∙ no_bit part

@@ -9,7 +9,7 @@ use Rattle.amr_num.specs.declared.BlockAt.{BlockAt}
 use Rattle.amr_num.specs.declared.EdgeAt.{EdgeAt}
 use Rattle.mesh_model.specs.Fields.ArrayPlaces.{HoldsEdges}
 use Rattle.mesh_model.specs.Fields.FinePlaces.{edges_in}
-use Rattle.mesh_model.specs.Fields.Ranks.{IsFit, RankState, Told, WorldState}
+use Rattle.mesh_model.specs.Fields.Ranks.{IsFit, IsSized, RankState, Told, WorldState}
 use Rattle.mesh_model.specs.Fields.Views.{edge_view}
 use Rattle.mesh_model.specs.Tree.Kinds.{Grid, holds, is_leaf, is_leaf_edge, is_split_edge}
 use Rattle.mesh_model.specs.Geometry.Coordinates.{round_edge}
@@ -248,3 +248,8 @@ module _ (work : Bool) (n e : ℕ) (old new : WorldState) (valid : Valid old.tol
   views_after =
       subst (λ w. LeavesHoldEdges work w field) same_told
       (views_held work (record { told = old.told; ranks = new.ranks }) field valid (λ node a s t leaf hs ht. subst (λ w. LineHolds work w field node a s t) (sym same_told) (lines node a s t leaf hs ht)))
+
+-- lines that hold go on holding
+pub kept_line : (work : Bool) (n e : ℕ) (u v : WorldState) → IsSized n e u.told.grid.shape → AreHalved work n e u v → (node : ℕ) → IsLeafNode u.told.grid node → (a : Axis) (s t : ℕ) → s ≤ n → t ≤ n → (field : EdgeAt → ℤ) →
+    LeafEdgesHold work u field → LineHolds work u field node a s t → LineHolds work v field node a s t
+kept_line work n e u v sized uv node leaf a s t hs ht field holds line = uv.keeps field node a s t leaf (subst (λ m. s ≤ m) (sym sized.cells) hs) (subst (λ m. t ≤ m) (sym sized.cells) ht) holds line
