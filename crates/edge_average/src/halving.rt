@@ -26,7 +26,7 @@ use mesh_model::Var;
 use rank_world::World;
 
 /// The array of a block's edges along an axis: its work edges, or those of the edge variable.
-fn edge_var(work: bool, axis: Axis) -> Var
+pub(crate) fn edge_var(work: bool, axis: Axis) -> Var
     ensures { result ≡ holding.edge_var work axis }
 {
     if work {
