@@ -5,3 +5,4 @@ pub mod LinePlaces
 pub mod Readings
 pub mod Worlds
 pub mod Rounds
+pub mod EdgePuts
