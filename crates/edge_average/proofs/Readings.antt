@@ -78,10 +78,6 @@ module _ (work : Bool) (w : WorldState) (valid : Valid w.told.grid) (a : Axis) (
   near_calm : has_finer g a (block_at g k) (place_within m u) (place_within m v) ≡ false
   near_calm = ap (λ c. has_finer g a c (place_within m u) (place_within m v)) is.block ∙ near.calm h hh
 
-  pub child_within : IsTame work w → (p : ℕ) → p < m → Within (2 ^ 56) (edge_stored work w a k p (place_within m u) (place_within m v))
-  child_within tame p hp =
-      tame.calm k a p (place_within m u) (place_within m v) near_node (record { along = hp; first = within_most m u valid.shape.cells hu; second = within_most m v valid.shape.cells hv }) near_calm
-
   -- the sum of two edges of the child is that of the halves of one of the line's
   pair_there : (field : EdgeAt → ℤ) → LeafEdgesHold work w field → (i : ℕ) → i < m / 2 →
       pair_at m g.shape.g a (edge_array work w a k) i (place_within m u) (place_within m v) ≡ sum_of_halves field (edge_there g.shape a d (m / 2 * h + i) u v)
@@ -145,13 +141,6 @@ module _ (work : Bool) (w : WorldState) (valid : Valid w.told.grid) (n e : ℕ) 
 
   number : IsNumberOf w.told.grid (child_on s.n a d h u v) k
   number = subst (λ m. IsNumberOf w.told.grid (child_on m a d h u v) k) (sym sized.cells) is
-
-  pub near_small : IsTame work w → (p : ℕ) → p < s.n → Within (2 ^ 56) (edge_stored work w x k p q r)
-  near_small tame p hp =
-      subst (λ y. Within (2 ^ 56) (edge_stored work w y k p q r)) (sym on_axis)
-      (subst (λ y. Within (2 ^ 56) (edge_stored work w a k p y r)) (sym (on_first ∙ ap (λ m. place_within m u) (sym sized.cells)))
-      (subst (λ y. Within (2 ^ 56) (edge_stored work w a k p (place_within s.n u) y)) (sym (on_second ∙ ap (λ m. place_within m v) (sym sized.cells)))
-      (child_within work w valid a d u v first_most second_most near h hh k number tame p hp)))
 
   pub near_pair : (field : EdgeAt → ℤ) → LeafEdgesHold work w field → (i : ℕ) → i < n / 2 →
       pair_at n e x (edge_array work w x k) i q r ≡ sum_of_halves field (edge_there s a d (n / 2 * h + i) u v)
