@@ -1,5 +1,5 @@
 -- What setting one edge of a world makes of an engine's mesh, and how great the numbers of its leaves' edges are.
-use Rattle.std.proofs.Common.{◌≡◌, ◌*◌, ◌<◌, ◌^◌, ◌↔◌, Bool, true, false, ◌&&◌, List, length, ℤ, ℕ, None, refl, sym, ap, ap₂, subst, ◌∙◌, arith, if◌then◌else◌}
+use Rattle.std.proofs.Common.{◌≡◌, ◌+◌, ◌*◌, ◌<◌, ◌^◌, ◌↔◌, Bool, true, false, ◌&&◌, List, length, ℤ, ℕ, None, refl, sym, ap, ap₂, subst, ◌∙◌, arith, if◌then◌else◌}
 use Rattle.amr_num.specs.Numbers.{Within}
 use Rattle.amr_num.specs.declared.Axis.{Axis}
 use Rattle.amr_num.specs.declared.Axis.TheVariants.{X, Y, Z}
@@ -12,7 +12,7 @@ use Rattle.mesh_model.specs.declared.fields.spot.Spot.TheVariants as spots
 use Rattle.mesh_model.specs.declared.fields.values.Var.TheVariants.{Cell, Edge, Face}
 use Rattle.mesh_model.specs.declared.language.script.Command.TheVariants.{EdgeSet}
 use Rattle.mesh_model.specs.declared.run.stops.Refusal.TheVariants as refusals
-use Rattle.mesh_model.specs.Fields.ArrayPlaces.{edge_extents, size_of}
+use Rattle.mesh_model.specs.Fields.ArrayPlaces.{edge_extents, number_at}
 use Rattle.mesh_model.specs.Fields.Plain.{Mesh}
 use Rattle.mesh_model.specs.Fields.Ranks.{IsFit, Told, WorldState}
 use Rattle.mesh_model.specs.Fields.Setting.{set_edge}
@@ -29,7 +29,7 @@ use Rattle.mesh_model.specs.Tree.Kinds.{Grid, is_leaf_edge}
 use Rattle.mesh_model.proofs.FieldLemmas.Worlds.{has_array}
 use Rattle.mesh_model.proofs.RunLemmas.RunValid.{edge_as_is, keeps_validity}
 use Rattle.edge_average.specs.EdgeArrays.{EdgesWithin}
-use Rattle.edge_average.proofs.LeafViews.{leaf_edge_views_are_small}
+use Rattle.edge_average.proofs.HalfEdges.{views_are_small}
 use Rattle.rank_world.specs.Contents.{edges_of}
 use Rattle.rank_world.specs.Holding.{IsLeafNode, IsOfMesh, LeavesHoldEdges, OnlyAxes, OnlyLeafAxes, edge_array, edge_var}
 use Rattle.rank_world.proofs.Meshes.{faces_same}
@@ -66,7 +66,7 @@ module _ (names : VariableNames) (w : WorldState) (outs : List ℤ) (marks : Mar
   leaf_within some node a i j k leaf place =
       let g = w.told.grid in
       let view : Within (2 * 2 ^ 40) (edge_view g (edges_of w) (edge_name g.shape a (block_at g node) i j k)) =
-      leaf_edge_views_are_small g (edges_of w) (2 ^ 40) (block_at g node) a i j k (tree_now names w outs marks laid valid) leaf.leaf (λ e is. edge_range e) place.x place.y place.z in
+      views_are_small g (edges_of w) (2 ^ 40) (block_at g node) a i j k (tree_now names w outs marks laid valid) leaf.leaf (λ e is. edge_range e) place.x place.y place.z in
       subst (Within (2 ^ 41)) (sym ((edges_now names w outs marks laid valid some node leaf a).at i j k place.x place.y place.z)) (omega (arith, view))
 
   pub edges_small : (n g : ℕ) → IsFit n g w → 0 < w.told.counts.edges → AreEdgesSmall n g w
