@@ -1,9 +1,9 @@
 -- The halves of a leaf's edges round which finer leaves stand: they are leaf edges, and edges of the children of each split block round them.
-use Rattle.std.proofs.Common.{◌≡◌, ℕ, suc, ◌+◌, ◌*◌, ◌/◌, ◌%◌, ◌<◌, ◌≤◌, ◌⊎◌, Bool, true, false, not, ◌||◌, ℤ, pos, ◌+ℤ◌, refl, sym, ap, ap₂, subst, ◌∙◌, arith, inl, inr}
+use Rattle.std.proofs.Common.{◌≡◌, ℕ, ◌+◌, ◌*◌, ◌/◌, ◌%◌, ◌<◌, ◌≤◌, ◌⊎◌, Bool, true, false, not, ℤ, pos, ◌+ℤ◌, refl, sym, ap, subst, ◌∙◌, arith, inl, inr}
 use Rattle.std.specs.Prelude.{if◌then◌else◌}
 use Rattle.std.proofs.lemmas.Bool.{cases_Bool}
 use Rattle.std.proofs.lemmas.Int.{ints}
-use Rattle.amr_num.specs.Numbers.{Within, sum_below}
+use Rattle.amr_num.specs.Numbers.{Within}
 use Rattle.amr_num.proofs.Parts.{sum_below_same}
 use Rattle.amr_num.specs.declared.Axis.{Axis}
 use Rattle.amr_num.specs.declared.Axis.TheVariants.{X, Y, Z}
@@ -11,7 +11,7 @@ use Rattle.amr_num.specs.declared.BlockAt.{BlockAt}
 use Rattle.amr_num.specs.declared.EdgeAt.{EdgeAt}
 use Rattle.mesh_model.specs.Fields.Views.{edge_view}
 use Rattle.mesh_model.specs.Fields.FaceSplits.{position}
-use Rattle.mesh_model.specs.Geometry.Blocks.{InDomain, child_block}
+use Rattle.mesh_model.specs.Geometry.Blocks.{InDomain}
 use Rattle.mesh_model.specs.Geometry.Coordinates.{half_edge, next}
 use Rattle.mesh_model.specs.Tree.Kinds.{Grid, is_leaf_block, is_leaf_edge, is_split, is_split_block, is_split_edge}
 use Rattle.mesh_model.specs.Tree.ValidGrid.{Valid}

@@ -1,5 +1,5 @@
 -- Places of edges by lines, and where they stand in arrays.
-use Rattle.std.proofs.Common.{◌≡◌, ℕ, ◌+◌, ◌*◌, ◌^◌, ◌<◌, ◌≤◌, ◌≢◌, List, length, set, ℤ, pos, ◌+ℤ◌, ap, ap₂, ◌∙◌, arith}
+use Rattle.std.proofs.Common.{◌≡◌, ℕ, ◌+◌, ◌*◌, ◌<◌, ◌≢◌, List, length, set, ℤ, pos, ◌+ℤ◌, ap, ap₂, ◌∙◌, arith}
 use Rattle.std.proofs.lemmas.Int.{ints}
 use Rattle.std.proofs.lemmas.List.{get_or-set_other, get_or-set_same, length-set}
 use Rattle.amr_num.specs.declared.Axis.{Axis}
@@ -7,7 +7,7 @@ use Rattle.amr_num.specs.declared.Axis.TheVariants.{X, Y, Z}
 use Rattle.mesh_model.specs.Fields.ArrayPlaces.{Extents, edge_extents, place_in}
 use Rattle.mesh_model.specs.Geometry.Places.{longer_across}
 use Rattle.mesh_model.proofs.FieldLemmas.BlockPlaces.{same_x, same_y, same_z}
-use Rattle.edge_average.specs.EdgeSums.{AreEdgesSet, IsEdgeSet, edge_at, pair_at}
+use Rattle.edge_average.specs.EdgeSums.{IsEdgeSet, edge_at, pair_at}
 use Rattle.edge_average.specs.Lines.{IsEdgePlace, line_place}
 
 -- ---- places by three numbers, and by one along an axis and two across it

@@ -1,5 +1,5 @@
 -- A block in a direction from another touches it, and so nothing finer stands round the children of a block that is not split.
-use Rattle.std.proofs.Common.{◌≡◌, ℕ, zero, suc, ◌+◌, ◌*◌, ◌^◌, ◌<◌, ◌≤◌, Bool, true, false, ◌||◌, ◌&&◌, Option, Some, None, refl, sym, ap, subst, ◌∙◌, arith, inl, inr}
+use Rattle.std.proofs.Common.{◌≡◌, ℕ, zero, suc, ◌*◌, ◌^◌, ◌<◌, ◌≤◌, Bool, true, false, ◌||◌, ◌&&◌, Option, Some, None, refl, sym, ap, subst, arith, inl, inr}
 use Rattle.amr_num.specs.declared.Axis.{Axis}
 use Rattle.amr_num.specs.declared.Axis.TheVariants.{X, Y, Z}
 use Rattle.amr_num.specs.declared.BlockAt.{BlockAt}
@@ -15,7 +15,7 @@ use Rattle.mesh_model.proofs.TreeLemmas.Tiling.{domain_child}
 use Rattle.mesh_model.proofs.TreeLemmas.Touching.{Meet, Touch}
 use Rattle.block_tree.specs.Directions.{block_of_three, block_toward, has_edges, is_kind, lies_round, lies_toward, passes, toward_on}
 use Rattle.block_tree.specs.declared.directions.Direction.{Direction}
-use Rattle.block_tree.proofs.SideAxes.{Neighbours, ends_meet, neighbours}
+use Rattle.block_tree.proofs.SideAxes.{ends_meet, neighbours}
 use Rattle.edge_average.specs.Lines.{step_on}
 
 -- ---- coordinates of the block in a direction

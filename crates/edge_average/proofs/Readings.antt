@@ -1,5 +1,5 @@
 -- The numbers on lines of leaves, the sums that are read from finer ones, and a world of which a line has taken them.
-use Rattle.std.proofs.Common.{◌≡◌, ℕ, ◌+◌, ◌*◌, ◌/◌, ◌^◌, ◌<◌, ◌≤◌, ◌⊎◌, Bool, true, false, List, length, ℤ, refl, sym, ap, subst, ◌∙◌, arith}
+use Rattle.std.proofs.Common.{◌≡◌, ℕ, ◌+◌, ◌*◌, ◌/◌, ◌^◌, ◌<◌, ◌≤◌, ◌⊎◌, Bool, true, false, List, length, ℤ, sym, ap, subst, ◌∙◌, arith}
 use Rattle.std.specs.Prelude.{if◌then◌else◌}
 use Rattle.amr_num.specs.Numbers.{Within, at}
 use Rattle.amr_num.proofs.Parts.{sum_below_same}
@@ -13,18 +13,18 @@ use Rattle.mesh_model.specs.Fields.FinePlaces.{edges_in}
 use Rattle.mesh_model.specs.Fields.Ranks.{IsFit, IsSized, WorldState, world_with}
 use Rattle.mesh_model.specs.Geometry.Coordinates.{half_edge}
 use Rattle.mesh_model.specs.Geometry.Limits.{IsShape}
-use Rattle.mesh_model.specs.Tree.Kinds.{Grid, is_leaf_block, is_leaf_edge, is_split_edge}
+use Rattle.mesh_model.specs.Tree.Kinds.{Grid, is_leaf_block, is_leaf_edge}
 use Rattle.mesh_model.specs.Tree.ValidGrid.{Valid}
 use Rattle.mesh_model.proofs.FieldLemmas.Worlds.{fit_after, has_array, only_of, written_in}
 use Rattle.mesh_model.proofs.GeometryLemmas.ShapeLimits.{cells_some}
 use Rattle.block_tree.specs.Directions.{edge_name}
 use Rattle.block_tree.specs.Numbered.{IsNode, IsNumberOf, block_at}
 use Rattle.rank_world.specs.Holding.{IsLeafNode, LeafEdgesHold, edge_array, edge_var}
-use Rattle.edge_average.specs.EdgeArrays.{IsNear, IsTame, LineHolds, LineTaken, edge_stored}
+use Rattle.edge_average.specs.EdgeArrays.{IsNear, LineHolds, LineTaken, edge_stored}
 use Rattle.edge_average.specs.EdgeSums.{IsLineSet, edge_at, pair_at}
-use Rattle.edge_average.specs.Lines.{IsEdgePlace, child_on, edge_there, halved, has_finer, place_within, sum_of_halves}
+use Rattle.edge_average.specs.Lines.{IsEdgePlace, child_on, edge_there, has_finer, place_within, sum_of_halves}
 use Rattle.edge_average.proofs.HalfEdges.{in_child, inside_of, leaf_there, split_there, whole_of}
-use Rattle.edge_average.proofs.LineNames.{child_name, within_most}
+use Rattle.edge_average.proofs.LineNames.{child_name}
 use Rattle.edge_average.proofs.LinePlaces.{at_line}
 
 -- the sizes of a world's blocks

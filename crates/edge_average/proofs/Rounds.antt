@@ -1,5 +1,5 @@
 -- What is found round a line of a leaf: a split block, in whose children the halves of the line's edges lie.
-use Rattle.std.proofs.Common.{◌≡◌, ℕ, ◌*◌, ◌/◌, ◌%◌, ◌<◌, ◌≤◌, ◌⊎◌, Bool, true, false, ◌==◌, refl, sym, ap, ap₂, subst, ◌∙◌, arith, inl, inr}
+use Rattle.std.proofs.Common.{◌≡◌, ℕ, ◌%◌, ◌<◌, ◌≤◌, ◌⊎◌, true, false, ◌==◌, refl, sym, ap, ap₂, subst, ◌∙◌, inl, inr}
 use Rattle.std.proofs.Math.Nat.{div-eq_of_lt}
 use Rattle.std.proofs.lemmas.Nat.{pow_pos}
 use Rattle.amr_num.specs.declared.Axis.{Axis}
@@ -22,7 +22,7 @@ use Rattle.block_tree.specs.declared.directions.Round.{Round}
 use Rattle.block_tree.proofs.Leaves.{split_leaf}
 use Rattle.block_tree.proofs.RoundEdges.{direction_few, direction_is, part_of}
 use Rattle.edge_average.specs.EdgeArrays.{IsNear}
-use Rattle.edge_average.specs.Lines.{IsEdgePlace, beyond, edge_there, has_finer, line_part, line_place, step_on}
+use Rattle.edge_average.specs.Lines.{beyond, edge_there, has_finer, line_part, line_place, step_on}
 use Rattle.edge_average.proofs.HalfEdges.{inside_of, is_near, part_is}
 use Rattle.edge_average.proofs.LineNames.{beyond_most, beyond_name}
 use Rattle.edge_average.proofs.LinePlaces.{at_line}

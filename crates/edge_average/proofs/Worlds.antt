@@ -1,5 +1,5 @@
 -- Worlds in which a line of a leaf has taken its sums.
-use Rattle.std.proofs.Common.{◌≡◌, ℕ, ◌+◌, ◌*◌, ◌^◌, ◌<◌, ◌≤◌, ◌⊎◌, Bool, true, false, not, List, Some, ℤ, refl, sym, ap, subst, ◌∙◌, arith, inl, inr}
+use Rattle.std.proofs.Common.{◌≡◌, ℕ, ◌+◌, ◌^◌, ◌<◌, ◌≤◌, ◌⊎◌, Bool, true, false, not, List, ℤ, refl, sym, ap, subst, ◌∙◌, arith, inl, inr}
 use Rattle.std.specs.Prelude.{if◌then◌else◌}
 use Rattle.std.specs.List.{list_any}
 use Rattle.std.proofs.lemmas.Bool.{cases_order}
@@ -7,7 +7,6 @@ use Rattle.amr_num.specs.Numbers.{Within}
 use Rattle.amr_num.specs.declared.Axis.{Axis}
 use Rattle.amr_num.specs.declared.BlockAt.{BlockAt}
 use Rattle.amr_num.specs.declared.EdgeAt.{EdgeAt}
-use Rattle.mesh_model.specs.Fields.ArrayPlaces.{HoldsEdges}
 use Rattle.mesh_model.specs.Fields.FinePlaces.{edges_in}
 use Rattle.mesh_model.specs.Fields.Ranks.{IsFit, IsSized, RankState, Told, WorldState}
 use Rattle.mesh_model.specs.Fields.Views.{edge_view}
@@ -17,7 +16,7 @@ use Rattle.mesh_model.specs.Tree.ValidGrid.{Valid}
 use Rattle.mesh_model.proofs.TreeLemmas.Tests.{and_right, not_true}
 use Rattle.block_tree.specs.Directions.{edge_name}
 use Rattle.block_tree.specs.Numbered.{block_at}
-use Rattle.rank_world.specs.Holding.{IsLeafNode, LeafEdgesHold, LeavesHoldEdges, OnlyLeafAxes, edge_array, edge_var}
+use Rattle.rank_world.specs.Holding.{IsLeafNode, LeafEdgesHold, LeavesHoldEdges, edge_array, edge_var}
 use Rattle.rank_world.proofs.Puts.{which_array}
 use Rattle.edge_average.specs.EdgeArrays.{AreHalved, EdgesWithin, IsTame, LineHolds, LineTaken, edge_stored}
 use Rattle.edge_average.specs.EdgeSums.{edge_at}

@@ -12,7 +12,7 @@ use Rattle.mesh_model.specs.Tree.Kinds.{Grid, is_leaf_block}
 use Rattle.block_tree.specs.Numbered.{block_at}
 use Rattle.rank_world.specs.Holding.{IsLeafNode, LeafEdgesHold, OnlyLeafAxes, edge_array, edge_var}
 use Rattle.edge_average.specs.EdgeSums.{edge_at}
-use Rattle.edge_average.specs.Lines.{IsEdgePlace, child_on, edge_there, half_with, halved, has_finer, place_within, sum_of_halves}
+use Rattle.edge_average.specs.Lines.{IsEdgePlace, child_on, edge_there, halved, has_finer, place_within, sum_of_halves}
 
 -- the numbers of a node's array of edges along an axis
 abbrev pub edge_stored : Bool → WorldState → Axis → ℕ → ℕ → ℕ → ℕ → ℤ

@@ -21,7 +21,7 @@ ghost use Rattle.std.specs.Prelude.{◌≡◌, ◌+◌, ◌*◌, ◌/◌, ◌^�
 use crate::lines::{Line, line_beyond, line_within, octant_of, part_of, set_line, sum_line};
 use amr_num::Axis;
 use block_store::is_kept;
-use block_tree::{Round, direction_at, finer_parts, node_round};
+use block_tree::{direction_at, finer_parts, node_round};
 use mesh_model::Var;
 use rank_world::World;
 
@@ -141,8 +141,9 @@ fn agree_line<const N: usize, const G: usize>(
         return;
     }
     match node_round(tree, false, direction_at(part), tree.at(node)) {
-        Some(Round { node: finer, toward }) => {
-            take_sums(world, work, node, line, finer, line_beyond(N, toward, line));
+        Some(round) => {
+            let there = line_beyond(N, round.toward, line);
+            take_sums(world, work, node, line, round.node, there);
         }
         None => (),
     }

@@ -167,14 +167,7 @@ fn coarse_faces_agree_with_finer_ones(rt: HostRuntime) {
 }
 
 /// Puts a number at a place of the edges along an axis of a node that is there.
-fn set_edge(
-    world: &mut World<4, 1>,
-    work: bool,
-    node: u32,
-    axis: Axis,
-    place: usize,
-    value: i32,
-)
+fn set_edge(world: &mut World<4, 1>, work: bool, node: u32, axis: Axis, place: usize, value: i32)
     requires fit { IsFit 4 1 world.old }
     requires declared { world.old.told.counts.edges ≡ 1 }
     requires small { (other : Bool) → EdgesWithin other world.old (2 ^ 56) }

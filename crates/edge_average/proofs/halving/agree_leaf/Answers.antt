@@ -1,4 +1,4 @@
-use Rattle.std.proofs.Common.{◌≡◌, ◌≤◌, ap, subst, sym, ◌∙◌, false}
+use Rattle.std.proofs.Common.{◌≤◌, subst, sym, false}
 use Rattle.mesh_model.specs.Tree.Kinds.{Grid}
 use Rattle.mesh_model.specs.Tree.ValidGrid.{Valid}
 use Rattle.block_tree.specs.Directions.{AreParts}

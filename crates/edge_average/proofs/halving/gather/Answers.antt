@@ -1,4 +1,4 @@
-use Rattle.std.proofs.Common.{◌≡◌, ℕ, ◌+◌, ◌-◌, ◌*◌, ◌/◌, ◌^◌, ◌<◌, ap, subst, sym, ◌∙◌, arith, inl, inr}
+use Rattle.std.proofs.Common.{◌≡◌, ◌+◌, ◌-◌, ◌*◌, ◌/◌, ◌^◌, ◌<◌, ap, subst, sym, ◌∙◌, arith, inl, inr}
 use Rattle.std.proofs.lemmas.Bool.{cases_lt}
 use Rattle.amr_num.specs.Numbers.{Within, at}
 use Rattle.mesh_model.specs.Geometry.Blocks.{child_block}
@@ -45,5 +45,4 @@ loop-half-preserved g c =
             let last : n / 2 * k + i ≡ p = omega arith in
             subst (λ x. Within (2 ^ 58) (at c.sum_child.new.sums x)) last (c.sum_child.ensures.within i hi))
       ];
-      line_axis = c.loop-half.invariant.line_axis;
     }

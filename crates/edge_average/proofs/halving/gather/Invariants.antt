@@ -11,5 +11,4 @@ invariant-loop-half g l = record {
   sums : (field : EdgeAt → ℤ) → LeafEdgesHold l.work l.world field → (p : ℕ) → p < g.row.N / 2 * l.half →
       at l.sums p ≡ sum_of_halves field (edge_there l.world.told.grid.shape l.line.axis (block_at l.world.told.grid l.finer) p l.line.first l.line.second);
   within : (p : ℕ) → p < g.row.N / 2 * l.half → Within (2 ^ 58) (at l.sums p);
-  line_axis : l.inner.axis ≡ l.line.axis;
 }
