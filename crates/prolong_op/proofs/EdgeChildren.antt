@@ -1,6 +1,5 @@
 -- A child whose edges were split from its parent's holds the views of a field.
-use Rattle.std.proofs.Common.{◌≡◌, ℕ, suc, ◌+◌, ◌-◌, ◌*◌, ◌/◌, ◌%◌, ◌<◌, ◌≤◌, ◌⊎◌, Bool, true, false, not, ◌&&◌, ◌==◌, List, ℤ, pos, ◌+ℤ◌, [], ◌∷◌, map, ◌++◌, length, refl, sym, ap, ap₂, ◌∙◌, arith, inl, inr, subst, eqb-true, Option, Some}
-use Rattle.std.specs.Prelude.{flat_map, if◌then◌else◌}
+use Rattle.std.proofs.Common.{◌≡◌, ℕ, suc, ◌+◌, ◌-◌, ◌*◌, ◌/◌, ◌%◌, ◌<◌, ◌⊎◌, Bool, true, false, not, ◌&&◌, List, ℤ, pos, ◌+ℤ◌, map, length, refl, sym, ap, ap₂, ◌∙◌, arith, inl, inr, subst, eqb-true, Option, Some}
 use Rattle.std.specs.List.{list_any}
 use Rattle.std.proofs.lemmas.Bool.{and_parts, cases_Bool}
 use Rattle.amr_num.specs.declared.Axis.{Axis}
@@ -12,7 +11,7 @@ use Rattle.amr_num.specs.Numbers.{floor_div, part}
 use Rattle.mesh_model.specs.declared.geometry.Shape.{Shape}
 use Rattle.mesh_model.specs.Geometry.Blocks.{InDomain, child_block}
 use Rattle.mesh_model.specs.Geometry.Canonical.{canonical_on}
-use Rattle.mesh_model.specs.Geometry.Coordinates.{EdgeInside, Inside, above, below, edge_numbers, edge_of, extent, half_edge, is_periodic, moved_twice, next, on, round_edge, wrapped}
+use Rattle.mesh_model.specs.Geometry.Coordinates.{Inside, below, edge_of, extent, half_edge, is_periodic, moved_twice, next, on, round_edge}
 use Rattle.mesh_model.specs.Geometry.Places.{in_block, longer_across}
 use Rattle.mesh_model.specs.Geometry.Touch.{block_on}
 use Rattle.mesh_model.specs.Tree.Kinds.{Grid, holds, is_leaf, is_leaf_edge, is_split, is_split_block, is_split_edge}
@@ -22,7 +21,7 @@ use Rattle.mesh_model.specs.Fields.EdgeSplits.{EdgeChildrenAreSplit, IsAxisSplit
 use Rattle.mesh_model.specs.Fields.FaceSplits.{position}
 use Rattle.mesh_model.specs.Fields.FinePlaces.{edges_in}
 use Rattle.mesh_model.specs.Fields.Octants.{half_at}
-use Rattle.mesh_model.specs.Fields.Views.{edge_view, edge_view_at, even_round, evens, is_even, sum_of}
+use Rattle.mesh_model.specs.Fields.Views.{edge_view, edge_view_at, is_even, sum_of}
 use Rattle.mesh_model.proofs.FieldLemmas.Beside.{above_in}
 use Rattle.mesh_model.proofs.FieldLemmas.CellKinds.{wide_of}
 use Rattle.mesh_model.proofs.FieldLemmas.EdgeSums.{at_even}
@@ -31,7 +30,7 @@ use Rattle.mesh_model.proofs.FieldLemmas.Slots.{even_positions as half_positions
 use Rattle.mesh_model.proofs.FieldLemmas.ValidGrid.{tree}
 use Rattle.prolong_op.specs.EdgeSplitting.{number_beside}
 use Rattle.prolong_op.proofs.Between.{even_is, odd_of, twice_half}
-use Rattle.prolong_op.proofs.EdgeMeans.{mean_at, numbers_at, one_even, two_even}
+use Rattle.prolong_op.proofs.EdgeMeans.{mean_at, one_even, two_even}
 use Rattle.prolong_op.proofs.EdgeNames.{edge_inside, even_half, inside_all, level_at, name_at, named, odd_first, odd_second, on_first, on_second, own_place, place_below, place_beside, round_both, round_first, round_second}
 use Rattle.prolong_op.proofs.FaceChildren.{calm, pick_kept, pick_part, pick_rule}
 use Rattle.prolong_op.proofs.FaceNames.{canonical_below, child_inside, twice_below}
@@ -102,7 +101,7 @@ module _ (g : Grid) (b : BlockAt) (q : ℕ) (valid : Valid g) (domain : InDomain
   abbrev place : Axis → ℕ → ℕ → ℕ → ℕ → ℕ → CellAt
   place a i j k p r = place_beside a g.shape.n (child_block b q) i j k p r
 
-  abbrev name : Axis → ℕ → ℕ → ℕ → EdgeAt
+  abbrev pub name : Axis → ℕ → ℕ → ℕ → EdgeAt
   name a i j k = edge_of a (named g.shape a (in_block g.shape.n (child_block b q) i j k))
 
   inside : (a : Axis) (i j k p r : ℕ) → position a i j k < n → p < n → r < n → Inside g.shape (place a i j k p r)
@@ -145,11 +144,11 @@ module _ (g : Grid) (b : BlockAt) (q : ℕ) (valid : Valid g) (domain : InDomain
         (ap₂ at low far ∙ one (p - 1) r (omega (arith, hp)) hr)
         (ap₂ at high far ∙ one p r hp hr)
 
-  Calm : EdgeAt → Type 0
+  abbrev pub Calm : EdgeAt → Type 0
   Calm e = (is_split_edge g e ≡ false) × (is_leaf_edge g e ≡ false)
 
   inside_calm : (a : Axis) (i j k p r : ℕ) → position a i j k < n → 0 < p → p < n → 0 < r → r < n → Calm (edge_of a (place a i j k p r))
-  unfolding Calm is_split_edge is_leaf_edge
+  unfolding is_split_edge is_leaf_edge
   inside_calm a i j k p r h zp hp zr hr =
       let own = calm g b q valid domain whole in (
         inside_fails (is_split g) (λ i j k hi hj hk. (own i j k hi hj hk).0) a i j k p r h zp hp zr hr,
@@ -168,8 +167,7 @@ module _ (g : Grid) (b : BlockAt) (q : ℕ) (valid : Valid g) (domain : InDomain
 
   module _ (kept : ℕ) (a : Axis) (others : OtherEdgesLieInside g a (child_block b q) kept) where
     -- no edge that is not kept is split or a leaf edge
-    not_kept : (i j k : ℕ) → i < longer_across a X g.shape.n → j < longer_across a Y g.shape.n → k < longer_across a Z g.shape.n → is_kept_edge g.shape.n kept a i j k ≡ false → Calm (name a i j k)
-    unfolding Calm
+    pub not_kept : (i j k : ℕ) → i < longer_across a X g.shape.n → j < longer_across a Y g.shape.n → k < longer_across a Z g.shape.n → is_kept_edge g.shape.n kept a i j k ≡ false → Calm (name a i j k)
     not_kept i j k hi hj hk free = elim (cases_Bool (is_boundary_edge n a i j k)) [
       | inl boundary ↦ others.at i j k hi hj hk boundary free
       | inr none ↦
@@ -185,7 +183,6 @@ module _ (g : Grid) (b : BlockAt) (q : ℕ) (valid : Valid g) (domain : InDomain
       -- the parts are views
       part_view : (i j k : ℕ) → i < longer_across a X g.shape.n → j < longer_across a Y g.shape.n → k < longer_across a Z g.shape.n →
           is_kept_edge g.shape.n kept a i j k ≡ false → are_even a i j k ≡ true → edge_part g.shape.n g.shape.g q a (edges_in g a parent) i j k ≡ edge_view g field (name a i j k)
-      unfolding Calm
       part_view i j k hi hj hk free even =
           let e = g.shape.g in
           let u = half_at n q + i / 2 in
@@ -243,7 +240,7 @@ module _ (g : Grid) (b : BlockAt) (q : ℕ) (valid : Valid g) (domain : InDomain
 
         -- at other positions an edge has the mean
         odd_view : is_kept_edge g.shape.n kept a i j k ≡ false → are_even a i j k ≡ false → numbers i j k ≡ edge_view g field (name a i j k)
-        unfolding split_edge Calm
+        unfolding split_edge
         odd_view free odd =
             let e = g.shape.g in
             let size = valid.shape.cells in

@@ -1,5 +1,5 @@
 -- The names of a child's edges: those at even positions are halves of its parent's, and round the others stand those at the even positions beside.
-use Rattle.std.proofs.Common.{◌≡◌, ℕ, suc, ◌+◌, ◌-◌, ◌*◌, ◌/◌, ◌%◌, ◌^◌, ◌<◌, ◌≤◌, ◌⊎◌, Bool, true, false, not, ◌&&◌, ◌==◌, refl, sym, ap, ap₂, ◌∙◌, arith, inl, inr, eq-eqb, List, [], ◌∷◌, map, ◌++◌}
+use Rattle.std.proofs.Common.{◌≡◌, ℕ, suc, ◌+◌, ◌-◌, ◌*◌, ◌/◌, ◌%◌, ◌^◌, ◌<◌, ◌≤◌, ◌⊎◌, Bool, true, false, ◌&&◌, ◌==◌, refl, sym, ap, ap₂, ◌∙◌, arith, inl, inr, eq-eqb, [], ◌∷◌, ◌++◌}
 use Rattle.std.specs.Prelude.{flat_map, if◌then◌else◌}
 use Rattle.std.proofs.lemmas.Bool.{cases_Bool, cases_lt}
 use Rattle.amr_num.specs.declared.Axis.{Axis}
@@ -19,7 +19,6 @@ use Rattle.mesh_model.specs.Fields.Octants.{half_at}
 use Rattle.mesh_model.specs.Fields.Views.{even_round, evens, is_even}
 use Rattle.mesh_model.proofs.FieldLemmas.Inside.{not_even}
 use Rattle.mesh_model.proofs.GeometryLemmas.Halves.{by_size, some_cells, two_halves}
-use Rattle.mesh_model.proofs.TreeLemmas.Tests.{both_false}
 use Rattle.prolong_op.proofs.FaceNames.{line_inside, turned, wrapped_below}
 
 -- ---- places at other positions across an axis
