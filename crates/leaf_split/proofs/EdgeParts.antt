@@ -11,16 +11,22 @@ use Rattle.mesh_model.specs.Geometry.Blocks.{InDomain}
 use Rattle.mesh_model.specs.Geometry.Coordinates.{extent, is_periodic, next, wrapped}
 use Rattle.mesh_model.specs.Geometry.Places.{longer_across}
 use Rattle.mesh_model.specs.Tree.Kinds.{Grid}
-use Rattle.mesh_model.specs.Fields.ArrayPlaces.{HoldsEdges, IsInBox, IsSize, edge_extents, number_at}
+use Rattle.mesh_model.specs.Fields.ArrayPlaces.{Box, Fits, HoldsEdges, IsInBox, IsSize, edge_extents}
 use Rattle.mesh_model.specs.Fields.EdgeSplits.{end_step}
 use Rattle.mesh_model.specs.Fields.FaceSplits.{position}
 use Rattle.mesh_model.specs.Fields.FinePlaces.{edges_in}
 use Rattle.mesh_model.specs.Fields.Views.{edge_view}
+use Rattle.mesh_model.proofs.FieldLemmas.Beside.{three}
 use Rattle.block_tree.specs.Directions.{along, block_of_three, block_toward, edge_name, toward_on}
+use Rattle.block_tree.specs.Directions.{IsRound}
+use Rattle.block_tree.specs.Numbered.{block_at}
 use Rattle.block_tree.specs.declared.directions.Direction.{Direction}
+use Rattle.block_tree.specs.declared.directions.Round.{Round}
+use Rattle.mesh_model.specs.Fields.Ranks.{IsSized, WorldState}
+use Rattle.rank_world.specs.Holding.{LeavesHoldEdges, edge_array}
 use Rattle.block_tree.proofs.SideAxes.{neighbours}
 use Rattle.prolong_op.proofs.Lines.{block_place, edge_lines, edges_of}
-use Rattle.leaf_split.specs.EdgeKeeps.{AreSteps, IsPartCopied, IsToPart, OtherEdgesStay, PartHolds, count_on, first_on, is_same_axis, part_box, part_of, step_on, there_on}
+use Rattle.leaf_split.specs.EdgeKeeps.{AreSteps, IsPartCopied, IsToPart, OtherEdgesStay, PartHolds, count_on, first_on, part_box, part_of, part_there, step_on, there_on}
 use Rattle.leaf_split.proofs.SideLeaves.{extent_is, seam_position}
 
 -- ---- on one axis
@@ -121,6 +127,55 @@ module _ (p : Bool) (e n g b d : ℕ) (some : 0 < n) (inside : b < e) where
         let one : t ≡ 1 = elim to [ inl step ↦ step ∙ between.2 | inr one ↦ one ] in
         stays_on (end_step n i) 1 t i (ap (first_on n false) between.2) more h (subst (λ s. i - 1 < count_on n false s) (sym between.2) (omega arith)) one is
   ]
+
+-- the places of a part, and as many in the block in a direction, stand within the arrays
+fits_on : (n g : ℕ) (runs : Bool) (step : ℕ) → 1 ≤ n → 1 ≤ g → g + first_on n runs step + count_on n runs step ≤ (if runs then n + 2 * g else n + 2 * g + 1)
+fits_on n g true zero cells guards = omega arith
+fits_on n g false zero cells guards = omega arith
+fits_on n g true (suc zero) cells guards = omega arith
+fits_on n g false (suc zero) cells guards = omega arith
+fits_on n g true (suc (suc s)) cells guards = omega arith
+fits_on n g false (suc (suc s)) cells guards = omega arith
+
+there_fits_on : (n g : ℕ) (runs : Bool) (step t : ℕ) → 1 ≤ n → 1 ≤ g → (t ≡ step) ⊎ (t ≡ 1) → g + there_on n t (first_on n runs step) + count_on n runs step ≤ (if runs then n + 2 * g else n + 2 * g + 1)
+there_fits_on n g runs step t cells guards (inr one) =
+    subst (λ u. g + there_on n u (first_on n runs step) + count_on n runs step ≤ (if runs then n + 2 * g else n + 2 * g + 1)) (sym one) (fits_on n g runs step cells guards)
+there_fits_on n g runs step t cells guards (inl same) =
+    subst (λ u. g + there_on n u (first_on n runs step) + count_on n runs step ≤ (if runs then n + 2 * g else n + 2 * g + 1)) (sym same) (own runs step)
+  where
+    own : (runs : Bool) (step : ℕ) → g + there_on n step (first_on n runs step) + count_on n runs step ≤ (if runs then n + 2 * g else n + 2 * g + 1)
+    own true zero = omega arith
+    own false zero = omega arith
+    own true (suc zero) = omega arith
+    own false (suc zero) = omega arith
+    own true (suc (suc s)) = omega arith
+    own false (suc (suc s)) = omega arith
+
+module _ (n g : ℕ) (size : IsSize n g) where
+  sizes_some : (1 ≤ n) × (1 ≤ g)
+  sizes_some = (
+    elim size.cells [ inl four ↦ omega (arith, four) | inr eight ↦ omega (arith, eight) ],
+    elim size.guards [ inl one ↦ omega (arith, one) | inr (inl two) ↦ omega (arith, two) | inr (inr all) ↦ omega (arith, all) ],
+  )
+
+  pub part_fits : (a : Axis) (part : Direction) → Fits (edge_extents n g a) (part_box n g a part)
+  part_fits a part =
+      let s = sizes_some in
+      three (λ a. Fits (edge_extents n g a) (part_box n g a part))
+      (record { x = fits_on n g true part.x s.0 s.1; y = fits_on n g false part.y s.0 s.1; z = fits_on n g false part.z s.0 s.1 })
+      (record { x = fits_on n g false part.x s.0 s.1; y = fits_on n g true part.y s.0 s.1; z = fits_on n g false part.z s.0 s.1 })
+      (record { x = fits_on n g false part.x s.0 s.1; y = fits_on n g false part.y s.0 s.1; z = fits_on n g true part.z s.0 s.1 }) a
+
+  abbrev box_there : Axis → Direction → Direction → Box
+  box_there a part t = record (part_box n g a part) { x = (part_there n g a part t).x; y = (part_there n g a part t).y; z = (part_there n g a part t).z }
+
+  pub there_fits : (a : Axis) (part t : Direction) → IsToPart part t → Fits (edge_extents n g a) (box_there a part t)
+  there_fits a part t to =
+      let s = sizes_some in
+      three (λ a. Fits (edge_extents n g a) (box_there a part t))
+      (record { x = there_fits_on n g true part.x t.x s.0 s.1 to.x; y = there_fits_on n g false part.y t.y s.0 s.1 to.y; z = there_fits_on n g false part.z t.z s.0 s.1 to.z })
+      (record { x = there_fits_on n g false part.x t.x s.0 s.1 to.x; y = there_fits_on n g true part.y t.y s.0 s.1 to.y; z = there_fits_on n g false part.z t.z s.0 s.1 to.z })
+      (record { x = there_fits_on n g false part.x t.x s.0 s.1 to.x; y = there_fits_on n g false part.y t.y s.0 s.1 to.y; z = there_fits_on n g true part.z t.z s.0 s.1 to.z }) a
 
 -- where a position lies is on the part with the step there
 in_step : (n j s : ℕ) → 0 < n → s < 3 → first_on n false s ≤ j → j < first_on n false s + count_on n false s → end_step n j ≡ s
@@ -259,3 +314,27 @@ off_part g size some a part t steps one from old new is = record {
       let l = block_place n e size (edge_extents n e a) (edges_of n a) (edge_lines n e a) i j k hi hj hk in
       is.stays (e + i) (e + j) (e + k) l.0 l.1 l.2 (λ in_. off (in_box n e some part steps a one i j k in_));
 }
+
+-- ---- in the sizes of a world's blocks
+
+module _ (n e : ℕ) (w : WorldState) (size : IsSize n e) (sized : IsSized n e w.told.grid.shape) (a : Axis) (part t : Direction) (from old new : List ℤ) (is : IsPartCopied n e a part t from old new) where
+  size_here : IsSize w.told.grid.shape.n w.told.grid.shape.g
+  size_here = subst (λ m. IsSize m w.told.grid.shape.g) (sym sized.cells) (subst (λ m. IsSize n m) (sym sized.guards) size)
+
+  some : 0 < w.told.grid.shape.n
+  some = subst (λ m. 0 < m) (sym sized.cells) (let s = sizes_some n e size in omega (arith, s.0))
+
+  here : IsPartCopied w.told.grid.shape.n w.told.grid.shape.g a part t from old new
+  here = subst (λ m. IsPartCopied m w.told.grid.shape.g a part t from old new) (sym sized.cells) (subst (λ m. IsPartCopied n m a part t from old new) (sym sized.guards) is)
+
+  -- what is copied from a leaf round the edges of a part holds the views that the leaf holds
+  pub kept_views : (b : BlockAt) (r : Round) → InDomain w.told.grid.shape b → IsRound w.told.grid true b part r → r.toward ≡ t → from ≡ edge_array false w a r.node →
+      (field : EdgeAt → ℤ) → LeavesHoldEdges false w field → PartHolds w.told.grid field a b part (edges_in w.told.grid a new)
+  kept_views b r inside round toward same field holds =
+      let g = w.told.grid in
+      let to : IsToPart part r.toward = record { x = round.on_x; y = round.on_y; z = round.on_z } in
+      copied_part g b (block_at g r.node) some inside t part (subst (IsToPart part) toward to) (subst (λ d. block_toward g.shape d b ≡ Some (block_at g r.node)) toward round.node.toward) a from old new here field
+      (subst (λ ys. HoldsEdges g field a (block_at g r.node) (edges_in g a ys)) (sym same) (holds r.node (record { there = round.node.there; leaf = round.node.kind }) a))
+
+  pub kept_others : AreSteps part → step_on a part ≡ 1 → OtherEdgesStay w.told.grid a part old new
+  kept_others steps one = off_part w.told.grid size_here some a part t steps one from old new here

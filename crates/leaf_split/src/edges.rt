@@ -14,7 +14,7 @@ ghost use Rattle.mesh_model.specs.Fields.FaceSplits.{by_axis};
 ghost use Rattle.mesh_model.specs.Fields.FinePlaces.{edges_in};
 ghost use Rattle.mesh_model.specs.Fields.Ranks.{IsFit};
 ghost use Rattle.rank_world.specs.Holding.{IsLeafNode, IsOfValidMesh, LeavesHoldEdges};
-ghost use Rattle.std.specs.Prelude.{◌≡◌, ◌^◌, ◌<◌, ◌≤◌, ℤ, length};
+ghost use Rattle.std.specs.Prelude.{◌≡◌, ◌<◌, ◌≤◌, ℤ, false, length, true};
 
 use amr_num::{Axis, BlockAt};
 use block_store::{Extents, PlaceAt, Region, copy_region};
