@@ -17,8 +17,7 @@ use Rattle.mesh_model.specs.Fields.FaceSplits.{position}
 use Rattle.mesh_model.specs.Fields.FinePlaces.{edges_in}
 use Rattle.mesh_model.specs.Fields.Views.{edge_view}
 use Rattle.mesh_model.proofs.FieldLemmas.Beside.{three}
-use Rattle.block_tree.specs.Directions.{along, block_of_three, block_toward, edge_name, toward_on}
-use Rattle.block_tree.specs.Directions.{IsRound}
+use Rattle.block_tree.specs.Directions.{IsRound, along, block_of_three, block_toward, direction_of, edge_name, lies_round, toward_on}
 use Rattle.block_tree.specs.Numbered.{block_at}
 use Rattle.block_tree.specs.declared.directions.Direction.{Direction}
 use Rattle.block_tree.specs.declared.directions.Round.{Round}
@@ -26,7 +25,7 @@ use Rattle.mesh_model.specs.Fields.Ranks.{IsSized, WorldState}
 use Rattle.rank_world.specs.Holding.{LeavesHoldEdges, edge_array}
 use Rattle.block_tree.proofs.SideAxes.{neighbours}
 use Rattle.prolong_op.proofs.Lines.{block_place, edge_lines, edges_of}
-use Rattle.leaf_split.specs.EdgeKeeps.{AreSteps, IsPartCopied, IsToPart, OtherEdgesStay, PartHolds, count_on, first_on, part_box, part_of, part_there, step_on, there_on}
+use Rattle.leaf_split.specs.EdgeKeeps.{AreSteps, IsKeptPart, IsPartCopied, IsToPart, KeptPartsHold, OtherEdgesStay, OtherPartsStay, PartHolds, count_on, first_on, part_box, part_of, part_there, step_on, there_on}
 use Rattle.leaf_split.proofs.SideLeaves.{extent_is, seam_position}
 
 -- ---- on one axis
@@ -338,3 +337,33 @@ module _ (n e : ℕ) (w : WorldState) (size : IsSize n e) (sized : IsSized n e w
 
   pub kept_others : AreSteps part → step_on a part ≡ 1 → OtherEdgesStay w.told.grid a part old new
   kept_others steps one = off_part w.told.grid size_here some a part t steps one from old new here
+
+-- ---- one part after the other
+
+-- directions are told by their numbers
+same_number : (d e : ℕ) → d < 27 → e < 27 → direction_of d ≡ direction_of e → d ≡ e
+same_number d e hd he is =
+    let x = ap (λ (m : Direction). m.x) is in
+    let y = ap (λ (m : Direction). m.y) is in
+    let z = ap (λ (m : Direction). m.z) is in
+    omega (arith, hd, he, x, y, z)
+
+-- the parts before one are held while that is written
+pub one_more_held : (w : WorldState) (b : BlockAt) (number : ℕ) (stands : Bool) (old new : Axis → List ℤ) → number < 27 → KeptPartsHold w b number old → IsKeptPart w b (direction_of number) stands new →
+    OtherPartsStay w.told.grid (direction_of number) old new → KeptPartsHold w b (number + 1) new
+one_more_held w b number stands old new few before part others = record {
+  at = λ d h lies field holds a. elim (cases_lt d number) [
+    | inl less ↦ record {
+      at = λ i j k hi hj hk on.
+          (others a).at i j k hi hj hk (λ same. let number_is = same_number d number (omega (arith, less, few)) few (sym on ∙ same) in omega (arith, less, number_is))
+          ∙ (before.at d less lies field holds a).at i j k hi hj hk on;
+    }
+    | inr more ↦
+        let last : d ≡ number = omega (arith, more, h) in
+        subst (λ e. PartHolds w.told.grid field a b (direction_of e) (edges_in w.told.grid a (new a))) (sym last)
+        (part.views (part.stands ∙ ap (λ e. lies_round w.told.grid true b (direction_of e)) (sym last) ∙ lies) field holds a)
+  ];
+}
+
+pub all_held : (w : WorldState) (b : BlockAt) (number : ℕ) (xs : Axis → List ℤ) → number ≡ 27 → KeptPartsHold w b number xs → KeptPartsHold w b 27 xs
+all_held w b number xs is held = subst (λ m. KeptPartsHold w b m xs) is held
