@@ -1,6 +1,6 @@
 -- Edges of a child of a leaf: parts of its boundary that are kept, and edges that are split from its parent's.
-use Rattle.std.proofs.Common.{◌≡◌, ℕ, zero, suc, ◌+◌, ◌*◌, ◌/◌, ◌%◌, ◌^◌, ◌<◌, ◌≤◌, Bool, true, false, not, ◌&&◌, ◌||◌, ◌==◌, List, ℤ, Option, Some, None, refl, sym, ap, ap₂, subst, ◌∙◌, arith, inl, inr, eqb-true}
-use Rattle.std.proofs.lemmas.Bool.{and_parts, cases_Bool}
+use Rattle.std.proofs.Common.{◌≡◌, ℕ, zero, suc, ◌+◌, ◌*◌, ◌/◌, ◌%◌, ◌^◌, ◌<◌, ◌≤◌, Bool, true, false, not, ◌&&◌, ◌||◌, List, ℤ, Option, Some, None, refl, sym, ap, ap₂, subst, ◌∙◌, arith, inl, eqb-true}
+use Rattle.std.proofs.lemmas.Bool.{and_parts}
 use Rattle.amr_num.specs.Numbers.{Within, number_range}
 use Rattle.amr_num.specs.declared.Axis.{Axis}
 use Rattle.amr_num.specs.declared.Axis.TheVariants.{X, Y, Z}
@@ -8,13 +8,13 @@ use Rattle.amr_num.specs.declared.BlockAt.{BlockAt}
 use Rattle.amr_num.specs.declared.EdgeAt.{EdgeAt}
 use Rattle.mesh_model.specs.Geometry.Blocks.{InDomain, child_block}
 use Rattle.mesh_model.specs.Geometry.Coordinates.{half_edge, is_periodic, next, roots}
-use Rattle.mesh_model.specs.Geometry.Places.{in_block, longer_across}
+use Rattle.mesh_model.specs.Geometry.Places.{longer_across}
 use Rattle.mesh_model.specs.Geometry.Touch.{block_on, high_end, low_end}
 use Rattle.mesh_model.specs.Tree.Kinds.{Grid, is_leaf_block, is_leaf_edge, is_split_block, is_split_edge}
 use Rattle.mesh_model.specs.Tree.ValidGrid.{Valid}
-use Rattle.mesh_model.specs.Fields.ArrayPlaces.{HoldsEdges, IsSize, edge_extents}
+use Rattle.mesh_model.specs.Fields.ArrayPlaces.{HoldsEdges, edge_extents}
 use Rattle.mesh_model.specs.Fields.EdgeSplits.{AreEdgesSplit, EdgeSourcesAreSmall, KeptEdgesHold, OtherEdgesLieInside, all_edges, are_even, edge_direction, is_boundary_edge, is_kept_edge}
-use Rattle.mesh_model.specs.Fields.FaceSplits.{by_axis, is_kept, position}
+use Rattle.mesh_model.specs.Fields.FaceSplits.{is_kept, position}
 use Rattle.mesh_model.specs.Fields.FinePlaces.{edges_in}
 use Rattle.mesh_model.specs.Fields.Octants.{half_at}
 use Rattle.mesh_model.specs.Fields.Ranks.{IsSized, WorldState}
@@ -28,13 +28,13 @@ use Rattle.mesh_model.proofs.TreeLemmas.Levels.{calm_block, is_child}
 use Rattle.mesh_model.proofs.TreeLemmas.Tests.{refuted}
 use Rattle.mesh_model.proofs.TreeLemmas.Tiling.{IsChild, child_is_no_leaf, child_of_whole, leaf_says}
 use Rattle.mesh_model.proofs.TreeLemmas.Touching.{Meet, Touch}
-use Rattle.block_tree.specs.Directions.{AreParts, across, along, block_toward, direction_of, edge_name, has_edges, is_kind, lies_round, lies_toward, passes, toward_on}
+use Rattle.block_tree.specs.Directions.{AreParts, along, block_toward, edge_name, has_edges, lies_round, lies_toward, passes, toward_on}
 use Rattle.block_tree.specs.Numbered.{block_at}
 use Rattle.block_tree.specs.declared.directions.Direction.{Direction}
 use Rattle.block_tree.proofs.RoundEdges.{direction_few, direction_is, leaf_edge_of_leaf, leaf_edge_of_other, whole_edge}
 use Rattle.block_tree.proofs.SideAxes.{ends_meet, neighbours}
 use Rattle.prolong_op.proofs.EdgeChildren.{children_split, not_kept}
-use Rattle.prolong_op.proofs.EdgeNames.{even_half, named}
+use Rattle.prolong_op.proofs.EdgeNames.{even_half}
 use Rattle.prolong_op.proofs.Lines.{above_in_block, edge_lines, edges_of}
 use Rattle.rank_world.specs.Holding.{IsLeafNode, IsOfValidMesh, LeavesHoldEdges, edge_array}
 use Rattle.leaf_split.specs.EdgeKeeps.{KeptPartsHold, part_of}

@@ -1,4 +1,4 @@
-use Rattle.std.proofs.Common.{◌≡◌, ap₂, subst, sym}
+use Rattle.std.proofs.Common.{subst, sym}
 use Rattle.mesh_model.specs.Fields.ArrayPlaces.{Fits}
 use Rattle.leaf_split.specs.EdgeKeeps.{part_box, part_there}
 use Rattle.leaf_split.proofs.EdgeParts.{part_fits, there_fits}

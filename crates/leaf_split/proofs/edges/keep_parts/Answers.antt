@@ -1,5 +1,4 @@
-use Rattle.std.proofs.Common.{◌≡◌, ◌<◌, ◌∙◌, arith, true}
-use Rattle.block_tree.specs.Directions.{direction_of}
+use Rattle.std.proofs.Common.{◌<◌, ◌∙◌, arith, true}
 use Rattle.block_tree.proofs.Parts.{next_few, one_more}
 use Rattle.mesh_model.specs.Fields.FaceSplits.{by_axis}
 use Rattle.leaf_split.proofs.EdgeParts.{all_held, one_more_held}
