@@ -4,7 +4,7 @@ use Rattle.mesh_model.specs.Tree.Kinds.{Grid}
 use Rattle.mesh_model.specs.Tree.ValidGrid.{Valid}
 use Rattle.block_tree.proofs.Facts.{known}
 use Rattle.regrid_move.proofs.Moved.{over_leaf}
-use Rattle.regrid_move.proofs.faces.sum_up_faces.Goals as goal
+use Rattle.regrid_move.proofs.axes.sum_up_axes.Goals as goal
 
 pub unreachable-requires : goal.unreachable-requires
 unreachable-requires g c =
