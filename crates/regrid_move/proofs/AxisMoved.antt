@@ -1,5 +1,5 @@
 -- New leaves whose faces or edges hold the old grid's views.
-use Rattle.std.proofs.Common.{◌≡◌, ◌≢◌, ℕ, suc, ◌+◌, ◌-◌, ◌*◌, ◌/◌, ◌%◌, ◌<◌, ◌≤◌, ◌⊎◌, ◌^◌, true, false, List, ℤ, sym, ap, refl, subst, ◌∙◌, arith, inl, inr}
+use Rattle.std.proofs.Common.{◌≡◌, ◌≢◌, ℕ, suc, ◌+◌, ◌-◌, ◌*◌, ◌/◌, ◌%◌, ◌<◌, ◌≤◌, ◌⊎◌, ◌^◌, true, false, List, length, ℤ, sym, ap, refl, subst, ◌∙◌, arith, inl, inr}
 use Rattle.amr_num.specs.Numbers.{Within}
 use Rattle.amr_num.specs.declared.Axis.{Axis}
 use Rattle.amr_num.specs.declared.Axis.TheVariants.{X, Y, Z}
@@ -13,13 +13,13 @@ use Rattle.mesh_model.specs.Geometry.Blocks.{InDomain, LiesIn, child_block}
 use Rattle.mesh_model.specs.Geometry.Canonical.{canonical_on}
 use Rattle.mesh_model.specs.Geometry.Coordinates.{face_of, next}
 use Rattle.mesh_model.specs.Geometry.Places.{in_block, longer_across, longer_on}
-use Rattle.mesh_model.specs.Fields.ArrayPlaces.{HoldsEdgeField, HoldsEdges, HoldsFaceField, HoldsFaces, edge_extents, extents_of, face_extents, number_at}
-use Rattle.mesh_model.specs.Fields.Arrays.{Counts, HasVar}
+use Rattle.mesh_model.specs.Fields.ArrayPlaces.{HoldsEdgeField, HoldsEdges, HoldsFaceField, HoldsFaces, IsSize, edge_extents, extents_of, face_extents, number_at}
+use Rattle.mesh_model.specs.Fields.Arrays.{Counts, HasArray, HasVar, array_in, var_length}
 use Rattle.mesh_model.specs.Fields.FaceSplits.{position}
 use Rattle.mesh_model.specs.Fields.FinePlaces.{FineSumsAreSmall, IsSummed, edges_in, faces_in}
 use Rattle.mesh_model.specs.Fields.Octants.{half_at}
 use Rattle.mesh_model.specs.Fields.Plain.{Mesh}
-use Rattle.mesh_model.specs.Fields.Ranks.{IsFit, IsSized, OnlyOf, Told, WorldState}
+use Rattle.mesh_model.specs.Fields.Ranks.{IsFit, IsSized, OnlyOf, Told, WorldState, rank_at, world_with}
 use Rattle.mesh_model.specs.Fields.Valid.{ValidMesh}
 use Rattle.mesh_model.specs.Fields.Views.{edge_view, face_view}
 use Rattle.mesh_model.specs.Tree.Kinds.{Grid, is_split, is_split_block, is_split_edge, is_split_face}
@@ -30,6 +30,7 @@ use Rattle.mesh_model.proofs.FieldLemmas.Bounds.{wider}
 use Rattle.mesh_model.proofs.FieldLemmas.EdgeBounds.{split_edge_within}
 use Rattle.mesh_model.proofs.FieldLemmas.KeptValid.{leaf_cells_few}
 use Rattle.mesh_model.proofs.FieldLemmas.SideBounds.{split_face_within}
+use Rattle.mesh_model.proofs.FieldLemmas.Worlds.{fit_after, has_array, only_of, written_in}
 use Rattle.mesh_model.proofs.GeometryLemmas.ShapeLimits.{cells_least, cells_some}
 use Rattle.mesh_model.proofs.TreeLemmas.Nodes.{in_node}
 use Rattle.mesh_model.proofs.TreeLemmas.Tiling.{leaf_says, split_shows}
@@ -37,7 +38,7 @@ use Rattle.block_tree.proofs.Leaves.{node_inside}
 use Rattle.block_tree.proofs.RoundBlocks.{high_step, low_step, round_is}
 use Rattle.block_tree.proofs.RoundEdges.{across_most, ends, four_some}
 use Rattle.block_tree.specs.Directions.{across, block_toward, edge_name, passes}
-use Rattle.block_tree.specs.Numbered.{block_at}
+use Rattle.block_tree.specs.Numbered.{IsNode, block_at}
 use Rattle.rank_world.specs.Holding.{IsLeafNode, IsOfValidMesh, OnlyAxes, OnlyAxesOf}
 use Rattle.rank_world.proofs.FaceBlocks.{split_face_there}
 use Rattle.restrict_op.proofs.EdgeOctants as edges
@@ -70,6 +71,21 @@ same_axis Edges x y is = cc
 pub has_axis : (k : Staggered) (counts : Counts) (a : Axis) → 0 < count_of k counts → HasVar counts (var_of k a)
 has_axis Faces counts a some = some
 has_axis Edges counts a some = some
+
+-- a node's array on an axis that is given other numbers
+module _ (n e : ℕ) (k : Staggered) (w : WorldState) (a : Axis) (node : ℕ) (var : Var) (is : var ≡ var_of k a) (xs : List ℤ) (size : IsSize n e) (fit : IsFit n e w) (there : IsNode w.told.grid node)
+    (declared : 0 < count_of k w.told.counts) where
+  pub axis_there : HasArray (rank_at w 0).own.values var node
+  axis_there = has_array n e w var node fit there (subst (HasVar w.told.counts) (sym is) (has_axis k w.told.counts a declared))
+
+  pub axis_only : OnlyOf w (world_with w 0 var node xs) 0 (var_of k a) node
+  axis_only = subst (λ u. OnlyOf w (world_with w 0 var node xs) 0 u node) is (only_of w var node xs fit.one)
+
+  pub axis_fit : IsFit n e (world_with w 0 var node xs)
+  axis_fit = fit_after w var node xs fit.one n e size fit axis_there
+
+  pub axis_value : length xs ≡ var_length n e var → array_of k (world_with w 0 var node xs) a node ≡ xs
+  axis_value long = subst (λ u. array_in (rank_at (world_with w 0 var node xs) 0).own.values u node ≡ xs) is (written_in w var node xs fit.one n e size fit axis_there long)
 
 -- what an array on an axis holds is held where another axis' is written
 module _ (k : Staggered) (old b c : WorldState) (field : FieldOf k) (node : ℕ) (a x : Axis) (only : OnlyOf b c 0 (var_of k x) node) (apart : a ≢ x) where
@@ -265,9 +281,9 @@ same_edges g h field a b xs same holds = record {
 
 -- a new leaf with the old views has them as a field
 pub moved_field : (k : Staggered) (old new : WorldState) (field : FieldOf k) (node : ℕ) → new.told.grid.shape ≡ old.told.grid.shape → AxesMoved k old new field node → HasAxes k new (view_of k old.told.grid field) node
-moved_field Faces old new field node same moved a =
+moved_field Faces old new field node same moved = λ a.
     same_faces old.told.grid new.told.grid (face_view old.told.grid field) a (block_at new.told.grid node) (array_of Faces new a node) (sym same) (moved a)
-moved_field Edges old new field node same moved a =
+moved_field Edges old new field node same moved = λ a.
     same_edges old.told.grid new.told.grid (edge_view old.told.grid field) a (block_at new.told.grid node) (array_of Edges new a node) (sym same) (moved a)
 
 -- where another node's arrays are written a node keeps its own
