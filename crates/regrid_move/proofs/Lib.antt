@@ -1,3 +1,5 @@
+pub mod EdgeViews
+pub mod Walks
 pub mod Excess
 pub mod Moved
 pub mod AxisMoved
