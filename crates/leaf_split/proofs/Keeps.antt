@@ -13,7 +13,7 @@ use Rattle.mesh_model.specs.Geometry.Coordinates.{face_of}
 use Rattle.mesh_model.specs.Geometry.Places.{in_block, longer_on}
 use Rattle.mesh_model.specs.Tree.Kinds.{Grid, is_leaf_block, is_leaf_face, is_split_block, is_split_face}
 use Rattle.mesh_model.specs.Tree.ValidGrid.{Valid}
-use Rattle.mesh_model.specs.Fields.ArrayPlaces.{HoldsFaces}
+use Rattle.mesh_model.specs.Fields.ArrayPlaces.{HoldsFaces, face_extents}
 use Rattle.mesh_model.specs.Fields.FaceSplits.{AreFacesSplit, KeptSidesHold, OtherSidesLieInside, SourcesAreSmall, all_faces, by_axis, is_kept_side, position}
 use Rattle.mesh_model.specs.Fields.FinePlaces.{faces_in}
 use Rattle.mesh_model.specs.Fields.Octants.{half_at}
@@ -31,7 +31,7 @@ use Rattle.block_tree.proofs.Leaves.{split_leaf}
 use Rattle.block_tree.proofs.SideFaces.{calm_face}
 use Rattle.prolong_op.proofs.FaceChildren.{children_split}
 use Rattle.prolong_op.proofs.FaceNames.{even_face}
-use Rattle.prolong_op.proofs.FaceRows.{above_in_block}
+use Rattle.prolong_op.proofs.Lines.{above_in_block, face_lines, faces_of}
 use Rattle.rank_world.specs.Holding.{IsLeafNode, IsOfValidMesh, LeavesHoldFaces, face_array}
 use Rattle.rank_world.proofs.FaceBlocks.{leaf_face_seen}
 use Rattle.leaf_split.specs.FaceKeeps.{AreBitsOf, AreKeptSides, IsKeptSide, OthersStay, IsLeafBeside, IsSideCopied, side_of}
@@ -146,7 +146,7 @@ module _ (w : WorldState) (of : IsOfValidMesh w) (declared : 0 < w.told.counts.f
       let n = w.told.grid.shape.n in
       let size = valid.shape in
       let f = face_of a (canonical_on w.told.grid.shape a (in_block n b (half_at n q + i / 2) (half_at n (q / 2) + j / 2) (half_at n (q / 4) + k / 2))) in
-      let l = above_in_block n w.told.grid.shape.g (record { cells = valid.shape.cells; guards = valid.shape.guards }) a q i j k hi hj hk in
+      let l = above_in_block n w.told.grid.shape.g (record { cells = valid.shape.cells; guards = valid.shape.guards }) (face_extents n w.told.grid.shape.g a) (faces_of n a) (face_lines n w.told.grid.shape.g a) q i j k hi hj hk in
       let seen = leaf_face_seen w.told.grid valid a b leaf (half_at n q + i / 2) (half_at n (q / 2) + j / 2) (half_at n (q / 4) + k / 2) l.0 l.1 l.2 in
       let neither = off_sides a i j k hi hj hk off in
       let r = cross a (i % 2) (j % 2) (k % 2) in
@@ -169,7 +169,7 @@ module _ (w : WorldState) (of : IsOfValidMesh w) (declared : 0 < w.told.counts.f
     split = λ a i j k hi hj hk off even.
         let n = w.told.grid.shape.n in
         let e = w.told.grid.shape.g in
-        let l = above_in_block n e (record { cells = valid.shape.cells; guards = valid.shape.guards }) a q i j k hi hj hk in
+        let l = above_in_block n e (record { cells = valid.shape.cells; guards = valid.shape.guards }) (face_extents n e a) (faces_of n a) (face_lines n e a) q i j k hi hj hk in
         let one : e + half_at n q + i / 2 ≡ e + (half_at n q + i / 2) = omega arith in
         let two : e + half_at n (q / 2) + j / 2 ≡ e + (half_at n (q / 2) + j / 2) = omega arith in
         let last : e + half_at n (q / 4) + k / 2 ≡ e + (half_at n (q / 4) + k / 2) = omega arith in

@@ -1,2 +1,4 @@
 pub mod Keeps
 pub mod SideLeaves
+pub mod EdgeParts
+pub mod EdgesHeld

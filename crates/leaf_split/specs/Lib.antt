@@ -1,1 +1,2 @@
 pub mod FaceKeeps
+pub mod EdgeKeeps

@@ -1,6 +1,8 @@
+pub mod EdgeViews
+pub mod Walks
 pub mod Excess
 pub mod Moved
-pub mod FaceMoved
+pub mod AxisMoved
 pub mod Regridded
 pub mod Steps
 pub mod Stops

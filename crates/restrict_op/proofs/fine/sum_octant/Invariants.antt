@@ -1,4 +1,3 @@
-use Rattle.std.proofs.Common.{◌/◌}
 use Rattle.mesh_model.specs.Fields.FinePlaces.{array_octant, fine_summed}
 use Rattle.mesh_model.specs.Fields.ArrayPlaces.{AreRowsWritten, extents_of, number_at}
 use Rattle.restrict_op.proofs.fine.sum_octant.Given as goal

@@ -3,8 +3,7 @@ use Rattle.std.proofs.Common.{◌≡◌, ◌+◌, ◌-◌, ◌*◌, ◌/◌, ◌
 use Rattle.std.specs.Prelude.{slice_index}
 use Rattle.std.proofs.lemmas.List.{length-drop, length-take, length-take-le}
 use Rattle.amr_num.specs.Numbers.{Within, at, sum_below}
-use Rattle.mesh_model.specs.Fields.FinePlaces.{array_octant, fine_step, fine_summed, half_extents}
-use Rattle.mesh_model.specs.Fields.ArrayPlaces as places
+use Rattle.mesh_model.specs.Fields.FinePlaces.{array_octant, fine_summed, half_extents}
 use Rattle.mesh_model.specs.Fields.ArrayPlaces.{IsRowWritten, extents_of, number_at, place_in, row_of, size_of}
 use Rattle.mesh_model.proofs.FieldLemmas.BlockPlaces.{row_fits, row_put, row_y, row_z}
 use Rattle.restrict_op.proofs.FineRows.{array_octant_fits, extents_small, fine_inside, halves_small, step_inside, steps_sum}
