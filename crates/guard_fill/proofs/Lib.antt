@@ -7,3 +7,6 @@ pub mod PatchRows
 pub mod Patches
 pub mod Restricted
 pub mod TrialWorlds
+pub mod Summable
+pub mod AxisSums
+pub mod SumsOfVar

@@ -2,8 +2,8 @@
 
 ghost use Rattle.amr_num.specs.declared.CellAt.{CellAt};
 ghost use Rattle.guard_fill.specs.Filling as asked;
-ghost use Rattle.guard_fill.specs.Filling.{IsFilled, IsFilledAsked, IsGathered, IsKnown, IsPatched, LeavesAsked, LeavesGuarded, LeavesSided, OnlyGuards};
-ghost use Rattle.guard_fill.specs.Restricting.{IsCellGroup, IsReady, cell_variable};
+ghost use Rattle.guard_fill.specs.Filling.{IsCellGroup, IsFilled, IsFilledAsked, IsGathered, IsKnown, IsPatched, LeavesAsked, LeavesGuarded, LeavesSided, OnlyGuards, cell_variable};
+ghost use Rattle.guard_fill.specs.Restricting.{IsReady};
 ghost use Rattle.guard_fill.specs.Strips.{AreWithin, IsPatch, IsStrip, block_of};
 ghost use Rattle.mesh_model.specs.declared.fields.values.Var.TheVariants.{Cell};
 ghost use Rattle.mesh_model.specs.Fields.ArrayPlaces.{IsSize, cell_extents, size_of};
@@ -101,7 +101,7 @@ fn part_patch<const N: usize, const G: usize>(
     patch: Patch,
     room: &mut [i64],
 )
-    requires ready { IsReady N G world.now v }
+    requires ready { IsReady N G world.now (Cell v) }
     requires within { AreWithin N G patch }
     requires block { block ≡ block_of block.level patch }
     requires parent { (0 < block.level) × (is_leaf_block world.now.told.grid (parent_block block) ≡ true) }
@@ -132,7 +132,7 @@ fn read_patch<const N: usize, const G: usize>(
     patch: Patch,
     room: &mut [i64],
 )
-    requires ready { IsReady N G world.now v }
+    requires ready { IsReady N G world.now (Cell v) }
     requires within { AreWithin N G patch }
     requires known { IsKnown world.now.told.grid (block_of level patch) }
     requires room { length room.old ≡ size_of (cell_extents N G) }
@@ -161,7 +161,7 @@ fn fill_direction<const N: usize, const G: usize>(
     direction: usize,
     room: &mut [i64],
 )
-    requires ready { IsReady N G world.now v }
+    requires ready { IsReady N G world.now (Cell v) }
     requires leaf { is_leaf_block world.now.told.grid block ≡ true }
     requires direction { direction < 27 }
     requires room { length room.old ≡ size_of (cell_extents N G) }
@@ -181,7 +181,7 @@ fn fill_asked<const N: usize, const G: usize>(
     direction: usize,
     room: &mut [i64],
 )
-    requires ready { IsReady N G world.now v }
+    requires ready { IsReady N G world.now (Cell v) }
     requires leaf { is_leaf_block world.now.told.grid block ≡ true }
     requires direction { direction < 27 }
     requires room { length room.old ≡ size_of (cell_extents N G) }
@@ -201,7 +201,7 @@ fn gather<const N: usize, const G: usize>(
     guards: Guards,
     room: &mut [i64],
 )
-    requires ready { IsReady N G world.now v }
+    requires ready { IsReady N G world.now (Cell v) }
     requires leaf { IsLeafNode world.now.told.grid node }
     requires room { length room.old ≡ size_of (cell_extents N G) }
     ensures { IsGathered N G guards world.now v node room.new }
@@ -223,7 +223,7 @@ fn fill_leaf<const N: usize, const G: usize>(
     guards: Guards,
     room: &mut [i64],
 )
-    requires ready { IsReady N G world.old v }
+    requires ready { IsReady N G world.old (Cell v) }
     requires leaf { IsLeafNode world.old.told.grid node }
     requires room { length room.old ≡ size_of (cell_extents N G) }
     ensures only { OnlyOf world.old world.new 0 (Cell v) node }
@@ -241,7 +241,7 @@ fn fill_variable<const N: usize, const G: usize>(
     guards: Guards,
     room: &mut [i64],
 )
-    requires ready { IsReady N G world.old v }
+    requires ready { IsReady N G world.old (Cell v) }
     requires room { length room.old ≡ size_of (cell_extents N G) }
     ensures only { OnlyGuards world.old world.new v }
     ensures fit { IsFit N G world.new }

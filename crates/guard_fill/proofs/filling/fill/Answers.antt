@@ -1,7 +1,7 @@
 use Rattle.std.proofs.Common.{◌≡◌, ap, subst, sym}
 use Rattle.rank_world.specs.Holding.{NodesHold}
 use Rattle.guard_fill.specs.Filling.{LeavesGuarded}
-use Rattle.guard_fill.specs.Restricting.{cell_variable}
+use Rattle.guard_fill.specs.Filling.{cell_variable}
 use Rattle.guard_fill.proofs.Filled.{all_asked}
 use Rattle.guard_fill.proofs.filling.fill.Goals as goal
 

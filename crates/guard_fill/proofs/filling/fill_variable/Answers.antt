@@ -1,4 +1,5 @@
 use Rattle.std.proofs.Common.{◌≡◌, ◌∙◌, ap, arith, subst, sym, length, true, false, below_more}
+use Rattle.mesh_model.specs.declared.fields.values.Var.TheVariants.{Cell}
 use Rattle.mesh_model.specs.Tree.Kinds.{Grid, is_leaf_block}
 use Rattle.mesh_model.specs.Tree.Order.{nodes}
 use Rattle.mesh_model.specs.Fields.Ranks.{Told}
@@ -32,7 +33,7 @@ fill_leaf-requires g c =
     } in (
       omega arith,
       (
-        ready_after g.row.N g.row.G now mid c.args.v c.requires.ready c.loop-node.invariant.fit told,
+        ready_after g.row.N g.row.G now mid (Cell c.args.v) c.requires.ready c.loop-node.invariant.fit told,
         (leaf, c.loop-node.auto.room ∙ c.requires.room),
       ),
     )
