@@ -18,6 +18,7 @@ pub mod Regions
 pub mod Named
 pub mod Printed
 pub mod Kept
+pub mod Guarded
 pub mod Blown
 pub mod Advected
 pub mod StepMade
@@ -28,3 +29,4 @@ pub mod Balanced
 pub mod FacesMade
 pub mod Netted
 pub mod FacePut
+pub mod EdgePut

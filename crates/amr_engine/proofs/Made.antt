@@ -47,7 +47,9 @@ use Rattle.mesh_model.specs.declared.run.stops.LevelStop.{LevelStop}
 use Rattle.refine_marks.specs.Flags.{AddsBlock, IsSameSet}
 use Rattle.amr_engine.proofs.Marks.{derefine_set, refine_set, too_coarse, too_fine, too_many}
 use Rattle.amr_engine.specs.Filling.{AreLeavesFilled}
+use Rattle.guard_fill.specs.Restricting.{IsGroupOf, LeavesHoldOf}
 use Rattle.amr_engine.specs.EngineMesh.{IsLaidOut, mesh_of}
+use Rattle.amr_engine.specs.Guards.{field_of}
 use Rattle.amr_engine.specs.MarkedWhere.{IsMarkedWhere, marked_where, number_of, passes}
 use Rattle.amr_engine.specs.Totals.{IsTotal}
 use Rattle.amr_engine.specs.declared.marking.Where.{Where}
@@ -56,7 +58,6 @@ use Rattle.amr_engine.specs.Regions.{IsRegionOf, filled, filled_content}
 use Rattle.amr_engine.specs.declared.region.Fill.{Fill}
 use Rattle.amr_engine.specs.declared.region.Region.TheVariants as regions
 use Rattle.amr_engine.proofs.Filled.{holds_same}
-use Rattle.amr_engine.proofs.Printed.{IsThere}
 use Rattle.amr_engine.proofs.Shown.{laid_shown, leaves_on, mesh_shown, own_mesh}
 use Rattle.rank_world.proofs.Meshes.{edges_same, faces_same}
 
@@ -322,10 +323,16 @@ module _ (names : VariableNames) (w : WorldState) (outs : List ℤ) (marks : Mar
   pub has_edges : IsSome names.edge → 0 < w.told.counts.edges
   has_edges some = some_counted w.told.counts.edges names.edge laid.edges some
 
-  pub group_there : (group : Group) → IsGroup names group → IsThere w group
-  group_there (groups.Cell v) declared = subst (λ m. v < m) (sym laid.cells) declared
-  group_there groups.Face declared = has_faces declared
-  group_there groups.Edge declared = has_edges declared
+  pub group_counted : (group : Group) → IsGroup names group → IsGroupOf w.told.counts group
+  group_counted (groups.Cell v) declared = subst (λ m. v < m) (sym laid.cells) declared
+  group_counted groups.Face declared = has_faces declared
+  group_counted groups.Edge declared = has_edges declared
+
+  -- the leaves hold the mesh's field
+  pub field_held : (group : Group) → IsGroup names group → LeavesHoldOf w group (field_of now group)
+  field_held (groups.Cell v) declared = of_now.contents v (subst (λ m. v < m) (sym laid.cells) declared)
+  field_held groups.Face declared = of_now.on_faces (has_faces declared)
+  field_held groups.Edge declared = of_now.on_edges (has_edges declared)
 
   pub edges_now : 0 < w.told.counts.edges → LeavesHoldEdges false w (edges_of w)
   edges_now some = laid.on_edges some

@@ -1,5 +1,5 @@
 -- What is printed of a world is what its mesh has.
-use Rattle.std.proofs.Common.{◌≡◌, ℕ, ◌+◌, ◌*◌, ◌<◌, true, List, IsSome, length, ℤ, ◌-ℤ◌, pos, sym, ap, ap₂, subst, ◌∙◌, arith}
+use Rattle.std.proofs.Common.{◌≡◌, ℕ, ◌+◌, ◌*◌, ◌<◌, false, true, List, IsSome, length, ℤ, ◌-ℤ◌, pos, sym, ap, ap₂, subst, ◌∙◌, arith}
 use Rattle.std.proofs.lemmas.Int.{ints}
 use Rattle.block_tree.specs.Numbered.{IsNode, block_at}
 use Rattle.amr_num.specs.declared.Axis.{Axis}
@@ -9,7 +9,7 @@ use Rattle.mesh_model.specs.declared.fields.values.Group.TheVariants.{Cell, Edge
 use Rattle.mesh_model.specs.declared.fields.values.Var.{Var}
 use Rattle.mesh_model.specs.declared.fields.values.Var.TheVariants as vars
 use Rattle.mesh_model.specs.Fields.FinePlaces.{edges_in, faces_in}
-use Rattle.mesh_model.specs.Fields.ArrayPlaces.{AreIndices, HoldsEdges, HoldsFaces, HoldsViews, IsIndex, extents_of, number_at, number_of, place_of}
+use Rattle.mesh_model.specs.Fields.ArrayPlaces.{AreIndices, HoldsEdgeGuards, HoldsEdges, HoldsFaceGuards, HoldsFaces, HoldsGuards, HoldsViews, IsIndex, extents_of, number_at, number_of, place_of}
 use Rattle.mesh_model.specs.Fields.Arrays.{HasArray, HasVar, array_in}
 use Rattle.mesh_model.specs.Fields.Octants.{cells_of}
 use Rattle.mesh_model.specs.Fields.Plain.{Mesh}
@@ -21,8 +21,11 @@ use Rattle.mesh_model.proofs.FieldLemmas.BlockOctants.{block_of_cell}
 use Rattle.mesh_model.proofs.FieldLemmas.CellSums.{view_leaf}
 use Rattle.mesh_model.proofs.FieldLemmas.ValidGrid.{leaf_whole}
 use Rattle.mesh_model.proofs.FieldLemmas.Worlds.{has_array}
+use Rattle.amr_engine.specs.Guards.{field_of}
 use Rattle.amr_report.specs.Arrays.{array_on, places_along}
-use Rattle.amr_report.specs.Values.{HasInterior, HasViews, HasWhole, IsPlace, from_guard}
+use Rattle.amr_report.specs.Values.{HasGuardValues, HasInterior, HasViews, HasWhole, IsPlace, from_guard}
+use Rattle.guard_fill.specs.Guarding.{LeavesGuardedOf}
+use Rattle.guard_fill.specs.Restricting.{IsGroupOf}
 use Rattle.rank_world.specs.Holding.{IsLeafNode, IsOfMesh, cell_array, edge_array, face_array}
 
 -- a block index that is no guard's stands behind the guards
@@ -64,12 +67,6 @@ interior_index g many i h = record { from_first = omega (arith, ints); inside = 
 whole_index : (g h many i : ℕ) → g ≡ h → i < many → IsIndex g many (from_guard h i)
 whole_index g h many i same less = record { from_first = omega (arith, ints, same); inside = omega (arith, ints, same, less) }
 
--- the group's variable has arrays
-abbrev pub IsThere : WorldState → Group → Type 0
-IsThere w (Cell v) = v < w.told.counts.cells
-IsThere w Face = 0 < w.told.counts.faces
-IsThere w Edge = 0 < w.told.counts.edges
-
 module _ (n g : ℕ) (w : WorldState) (fit : IsFit n g w) (m : Mesh) (grid : w.told.grid ≡ m.grid) where
   cells_are : n ≡ m.grid.shape.n
   cells_are = sym fit.sizes.cells ∙ ap (λ (h : Grid). h.shape.n) grid
@@ -109,7 +106,7 @@ module _ (n g : ℕ) (w : WorldState) (fit : IsFit n g w) where
   number_there v node i j k = number_of g (extents_of n g v) (array_in (rank_at w 0).own.values v node) i j k
 
   -- what stands at the interior places of leaves is what the mesh has there
-  pub views_there : (m : Mesh) → IsOfMesh w m → ValidMesh m → (group : Group) → IsThere w group → HasViews number_there m group
+  pub views_there : (m : Mesh) → IsOfMesh w m → ValidMesh m → (group : Group) → IsGroupOf w.told.counts group → HasViews number_there m group
   views_there m of valid (Cell var) there = record {
     each = λ node is leaf a i j k place.
         let b = block_at m.grid node in
@@ -134,17 +131,40 @@ module _ (n g : ℕ) (w : WorldState) (fit : IsFit n g w) where
         number_is n g w fit m of.grid (vars.Edge a) (edge_array false w a node) i j k ∙ held.at i j k inside.0 inside.1 inside.2;
   }
 
+  -- and on all places of a leaf that has its guards, the guard values
+  pub guards_there : (m : Mesh) → w.told.grid ≡ m.grid → (group : Group) → LeavesGuardedOf w group (field_of m group) → (node : ℕ) → IsNode m.grid node → is_leaf_block m.grid (block_at m.grid node) ≡ true →
+      HasGuardValues number_there m group node
+  guards_there m grid (Cell var) guarded node is leaf = record {
+    each = λ a i j k place.
+        let held = subst (λ r. HoldsGuards r (m.cells var) (block_at r node) (cells_of r (cell_array w var node))) grid (guarded node (leaf_there n g w fit m grid node is leaf)) in
+        guard_number_is n g w fit m grid (vars.Cell var) (cell_array w var node) i j k ∙ held.at i j k (omega (arith, place.x)) (omega (arith, place.y)) (omega (arith, place.z));
+  }
+  guards_there m grid Face guarded node is leaf = record {
+    each = λ a i j k place.
+        let held = subst (λ r. HoldsFaceGuards r m.faces a (block_at r node) (faces_in r a (face_array w a node))) grid (guarded node a (leaf_there n g w fit m grid node is leaf)) in
+        let many = extents_are m.grid.shape.n m.grid.shape.g (vars.Face a) in
+        guard_number_is n g w fit m grid (vars.Face a) (face_array w a node) i j k
+        ∙ held.at i j k (let l = place.x in let x = many.0 in omega (arith, l, x)) (let l = place.y in let y = many.1 in omega (arith, l, y)) (let l = place.z in let z = many.2 in omega (arith, l, z));
+  }
+  guards_there m grid Edge guarded node is leaf = record {
+    each = λ a i j k place.
+        let held = subst (λ r. HoldsEdgeGuards r m.edges a (block_at r node) (edges_in r a (edge_array false w a node))) grid (guarded node a (leaf_there n g w fit m grid node is leaf)) in
+        let many = extents_are m.grid.shape.n m.grid.shape.g (vars.Edge a) in
+        guard_number_is n g w fit m grid (vars.Edge a) (edge_array false w a node) i j k
+        ∙ held.at i j k (let l = place.x in let x = many.0 in omega (arith, l, x)) (let l = place.y in let y = many.1 in omega (arith, l, y)) (let l = place.z in let z = many.2 in omega (arith, l, z));
+  }
+
   -- ---- and it is there
 
   abbrev is_there : Var → ℕ → ℤ → ℤ → ℤ → Type 0
   is_there v node i j k = HasArray (rank_at w 0).own.values v node × AreIndices g (extents_of n g v) i j k
 
-  declared_there : (group : Group) (a : Axis) → IsThere w group → HasVar w.told.counts (array_on group a)
+  declared_there : (group : Group) (a : Axis) → IsGroupOf w.told.counts group → HasVar w.told.counts (array_on group a)
   declared_there (Cell v) a there = there
   declared_there Face a there = there
   declared_there Edge a there = there
 
-  pub interior_there : (h : Grid) → h ≡ w.told.grid → (group : Group) → IsThere w group → HasInterior is_there h group
+  pub interior_there : (h : Grid) → h ≡ w.told.grid → (group : Group) → IsGroupOf w.told.counts group → HasInterior is_there h group
   interior_there h same group there = record {
     each = λ node is leaf a i j k place.
         let v = array_on group a in
@@ -160,7 +180,7 @@ module _ (n g : ℕ) (w : WorldState) (fit : IsFit n g w) where
         );
   }
 
-  pub whole_there : (h : Grid) → h ≡ w.told.grid → (group : Group) → IsThere w group → (node : ℕ) → IsNode h node → HasWhole is_there h group node
+  pub whole_there : (h : Grid) → h ≡ w.told.grid → (group : Group) → IsGroupOf w.told.counts group → (node : ℕ) → IsNode h node → HasWhole is_there h group node
   whole_there h same group there node is = record {
     each = λ a i j k place.
         let v = array_on group a in

@@ -10,3 +10,4 @@ pub mod Flowing
 pub mod Netting
 pub mod Settling
 pub mod Stepping
+pub mod Guards

@@ -119,7 +119,8 @@ impl<const N: usize, const G: usize> Engine<N, G> {
     ghost use Rattle.mesh_model.specs.Language.Commands.{AreThree, IsCellVariable, IsCommandOf, IsGroup, IsLeafNumber, IsLineOf, IsPlace};
     ghost use Rattle.mesh_model.specs.Geometry.Limits.{IsShape};
     ghost use Rattle.mesh_model.specs.Fields.Ranks.{IsSized};
-    ghost use Rattle.guard_fill.specs.Filling.{LeavesGuarded};
+    ghost use Rattle.guard_fill.specs.Guarding.{LeavesGuardedOf};
+    ghost use Rattle.amr_engine.specs.Guards.{field_of};
     ghost use Rattle.rank_world.specs.Holding.{IsOfMesh};
     ghost use Rattle.mesh_model.specs.Run.Runs.{KeepsBalance, KeepsOuts, KeepsTotals, StaysPositive, mesh_after, text_of};
     ghost use Rattle.mesh_model.specs.Fields.Start.{start_mesh};
@@ -417,16 +418,16 @@ impl<const N: usize, const G: usize> Engine<N, G> {
         print_var(sink, self.world.tree(), name, group, &self.world)
     }
 
-    /// Fills the guard cells of the variable in all leaves. No content changes.
-    fn fill_guards(&mut self, var: u32)
-        requires variable { IsCellVariable (declared_of self.old).names var }
+    /// Fills the guards of the variable in all leaves. No number of the mesh changes.
+    fn fill_guards(&mut self, group: Group)
+        requires group { IsGroup (declared_of self.old).names group }
         ensures mesh { plain self.new ≡ plain self.old }
         ensures told { self.new.world.told ≡ self.old.world.told }
-        ensures guards { LeavesGuarded self.new.world var ((plain self.old).cells var) }
+        ensures guards { LeavesGuardedOf self.new.world group (field_of (plain self.old) group) }
         ensures declared { declared_of self.new ≡ declared_of self.old }
     {
-        restrict_all(&mut self.world, Group::Cell(var));
-        fill(&mut self.world, Group::Cell(var));
+        restrict_all(&mut self.world, group);
+        fill(&mut self.world, group);
     }
 
     /// Prints the numbers of a variable in and round a leaf.
@@ -437,27 +438,17 @@ impl<const N: usize, const G: usize> Engine<N, G> {
         sink: &mut K,
     ) -> Result<(), Cause>
         requires group { IsGroup (declared_of self.old).names group }
-        requires built { has_guards group ≡ true }
         ensures acts { Acts result (plain self.old) (Command.PrintGuards group at) (plain self.new) (record { before = K.taken sink.old; after = K.taken sink.new; faults = K.faults sink.old; new_faults = K.faults sink.new }) }
         ensures declared { declared_of self.new ≡ declared_of self.old }
     {
-        let var = match group {
-            Group::Cell(var) => var,
-            Group::Face | Group::Edge => unreachable!(),
-        };
         let node = match self.world.tree().leaf_at(at) {
             Some(node) => node,
             None => return Err(Cause::PlaceBlock(at)),
         };
-        self.fill_guards(var);
-        written(print_guards(
-            sink,
-            self.world.tree(),
-            self.names.cell(var),
-            Group::Cell(var),
-            &self.world,
-            node,
-        ))
+        self.fill_guards(group);
+        let name = name_of(&self.names, group);
+        let tree = self.world.tree();
+        written(print_guards(sink, tree, name, group, &self.world, node))
     }
 
     /// Prints the number of leaf cells with a net flux.
