@@ -1,5 +1,5 @@
 -- New leaves whose faces or edges hold the old grid's views.
-use Rattle.std.proofs.Common.{◌≡◌, ◌≢◌, ℕ, suc, ◌+◌, ◌-◌, ◌*◌, ◌/◌, ◌%◌, ◌<◌, ◌≤◌, ◌⊎◌, ◌^◌, true, false, List, length, ℤ, sym, ap, refl, subst, ◌∙◌, arith, inl, inr}
+use Rattle.std.proofs.Common.{◌≡◌, ◌≢◌, ℕ, suc, ◌+◌, ◌-◌, ◌*◌, ◌/◌, ◌%◌, ◌<◌, ◌≤◌, ◌⊎◌, ◌^◌, true, List, length, ℤ, sym, ap, refl, subst, ◌∙◌, arith, inl, inr}
 use Rattle.amr_num.specs.Numbers.{Within}
 use Rattle.amr_num.specs.declared.Axis.{Axis}
 use Rattle.amr_num.specs.declared.Axis.TheVariants.{X, Y, Z}
@@ -44,7 +44,7 @@ use Rattle.rank_world.proofs.FaceBlocks.{split_face_there}
 use Rattle.restrict_op.proofs.EdgeOctants as edges
 use Rattle.restrict_op.proofs.FaceOctants as faces
 use Rattle.restrict_op.proofs.FineOctants.{var_along, whole_below}
-use Rattle.regrid_move.specs.AxisMoves.{AxesMoved, AxisMoved, AxisOctantMoved, FieldOf, HasAxes, HoldsAxis, LeafAxesMoved, LeavesHoldAxes, MayMoveAllAxes, MayMoveAxes, OctantHoldsAxis, array_of, count_of, var_of, view_of}
+use Rattle.regrid_move.specs.AxisMoves.{AxesMoved, AxisMoved, AxisOctantMoved, FieldOf, HasAxes, HoldsAxis, LeafAxesMoved, MayMoveAllAxes, MayMoveAxes, OctantHoldsAxis, array_of, count_of, var_of, view_of}
 use Rattle.regrid_move.specs.Near.{AreNear}
 use Rattle.regrid_move.specs.declared.kinds.Staggered.{Staggered}
 use Rattle.regrid_move.specs.declared.kinds.Staggered.TheVariants.{Edges, Faces}
