@@ -1,5 +1,5 @@
 -- New leaves whose faces or edges hold the old grid's views.
-use Rattle.std.proofs.Common.{◌≡◌, ◌≢◌, ℕ, suc, ◌+◌, ◌-◌, ◌*◌, ◌/◌, ◌%◌, ◌<◌, ◌≤◌, ◌⊎◌, ◌^◌, true, false, List, length, ℤ, sym, ap, refl, subst, ◌∙◌, arith, inl, inr}
+use Rattle.std.proofs.Common.{◌≡◌, ◌≢◌, ℕ, suc, ◌+◌, ◌-◌, ◌*◌, ◌/◌, ◌%◌, ◌<◌, ◌≤◌, ◌⊎◌, ◌^◌, true, List, length, ℤ, sym, ap, refl, subst, ◌∙◌, arith, inl, inr}
 use Rattle.amr_num.specs.Numbers.{Within}
 use Rattle.amr_num.specs.declared.Axis.{Axis}
 use Rattle.amr_num.specs.declared.Axis.TheVariants.{X, Y, Z}
@@ -44,7 +44,7 @@ use Rattle.rank_world.proofs.FaceBlocks.{split_face_there}
 use Rattle.restrict_op.proofs.EdgeOctants as edges
 use Rattle.restrict_op.proofs.FaceOctants as faces
 use Rattle.restrict_op.proofs.FineOctants.{var_along, whole_below}
-use Rattle.regrid_move.specs.AxisMoves.{AxesMoved, AxisMoved, AxisOctantMoved, FieldOf, HasAxes, HoldsAxis, LeavesHoldAxes, MayMoveAllAxes, MayMoveAxes, OctantHoldsAxis, array_of, count_of, var_of, view_of}
+use Rattle.regrid_move.specs.AxisMoves.{AxesMoved, AxisMoved, AxisOctantMoved, FieldOf, HasAxes, HoldsAxis, LeafAxesMoved, MayMoveAllAxes, MayMoveAxes, OctantHoldsAxis, array_of, count_of, var_of, view_of}
 use Rattle.regrid_move.specs.Near.{AreNear}
 use Rattle.regrid_move.specs.declared.kinds.Staggered.{Staggered}
 use Rattle.regrid_move.specs.declared.kinds.Staggered.TheVariants.{Edges, Faces}
@@ -325,3 +325,10 @@ pub one_moved : (k : Staggered) (old new : WorldState) (field : FieldOf k) (node
 one_moved k old new field node a b ys block numbers holds =
     subst (λ d. HoldsAxis k old.told.grid field a d (array_of k new a node)) (sym block)
     (subst (λ zs. HoldsAxis k old.told.grid field a b zs) (sym numbers) holds)
+
+-- where another kind's arrays are written the leaves keep their own
+pub kind_stays : (k : Staggered) (var : Axis → Var) (old b c : WorldState) (field : FieldOf k) → OnlyAxes var b c → ((a x : Axis) → var_of k a ≡ var x → ⊥) → LeafAxesMoved k old b field → LeafAxesMoved k old c field
+kind_stays k var old b c field only apart moved node leaf a =
+    subst (λ (t : Told). HoldsAxis k old.told.grid field a (block_at t.grid node) (array_of k c a node)) (sym only.told)
+    (subst (λ xs. HoldsAxis k old.told.grid field a (block_at b.told.grid node) xs) (sym (only.others (var_of k a) node (λ x is. apart a x is)))
+    (moved node (subst (λ (t : Told). IsLeafNode t.grid node) only.told leaf) a))

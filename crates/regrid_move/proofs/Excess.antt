@@ -36,8 +36,6 @@ use Rattle.mesh_model.proofs.FieldLemmas.ZeroViews.{no_edge_views, no_face_views
 use Rattle.block_tree.specs.Directions.{edge_name}
 use Rattle.block_tree.specs.Numbered.{block_at, block_in}
 use Rattle.block_tree.proofs.Leaves.{leaves_are}
-use Rattle.rank_world.specs.declared.edges.EdgeAbove.{EdgeAbove}
-use Rattle.rank_world.specs.declared.faces.FaceAbove.{FaceAbove}
 use Rattle.rank_world.specs.EdgeRange.{edge_above_at}
 use Rattle.rank_world.specs.FaceRange.{face_above_at}
 use Rattle.rank_world.proofs.FaceBlocks.{leaf_face_seen}
@@ -45,7 +43,7 @@ use Rattle.rank_world.proofs.Walked.{first_front, found_filtered}
 use Rattle.regrid_move.specs.AxisMoves.{edge_range, edges_stop, face_range, faces_stop}
 use Rattle.regrid_move.specs.Near.{block_stop, node_stop, variable_stop, view_stop}
 use Rattle.regrid_move.specs.Regrids.{first_moved_excess}
-use Rattle.regrid_move.proofs.EdgeViews.{edge_canonical}
+use Rattle.leaf_split.proofs.EdgeViews.{edge_canonical}
 use Rattle.regrid_move.proofs.Walks.{found_mapped, mapped_if, none_first, walked_same}
 
 -- ---- the first of some

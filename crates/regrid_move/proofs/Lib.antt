@@ -1,4 +1,3 @@
-pub mod EdgeViews
 pub mod Walks
 pub mod Excess
 pub mod Moved

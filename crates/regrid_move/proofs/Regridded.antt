@@ -36,7 +36,7 @@ use Rattle.rank_world.proofs.FaceBlocks.{leaf_face_seen}
 use Rattle.regrid_move.specs.AxisMoves.{FieldOf, HoldsAxis, LeafAxesMoved, LeavesHoldAxes, array_of}
 use Rattle.regrid_move.specs.declared.kinds.Staggered.{Staggered}
 use Rattle.regrid_move.specs.declared.kinds.Staggered.TheVariants.{Edges, Faces}
-use Rattle.regrid_move.proofs.EdgeViews as edges
+use Rattle.leaf_split.proofs.EdgeViews as edges
 use Rattle.regrid_move.specs.Near.{AreNear, IsNear, LeavesMoved}
 
 -- each leaf of the new grid is near

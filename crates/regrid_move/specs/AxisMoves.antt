@@ -1,5 +1,5 @@
 -- The numbers of new leaves on faces and on edges, from those of old ones: variables with an array on each axis.
-use Rattle.std.specs.Prelude.{◌≡◌, ℕ, ◌<◌, nat_lt, false, length, List, Option, None, if◌then◌else◌, ℤ}
+use Rattle.std.specs.Prelude.{◌≡◌, ℕ, ◌<◌, nat_lt, length, List, Option, None, if◌then◌else◌, ℤ}
 use Rattle.std.specs.Option.{option_map, option_or}
 use Rattle.amr_num.specs.declared.Axis.{Axis}
 use Rattle.amr_num.specs.declared.BlockAt.{BlockAt}

@@ -1,5 +1,5 @@
-use Rattle.std.proofs.Common.{◌≡◌, ◌<◌, List, ℤ, ap, subst, sym, ◌∙◌}
-use Rattle.mesh_model.specs.Fields.Arrays.{Counts, array_in}
+use Rattle.std.proofs.Common.{◌≡◌, List, ℤ, ap, subst, sym, ◌∙◌}
+use Rattle.mesh_model.specs.Fields.Arrays.{array_in}
 use Rattle.mesh_model.specs.Fields.Ranks.{Told, rank_at}
 use Rattle.block_tree.specs.Numbered.{block_at}
 use Rattle.regrid_move.specs.AxisMoves.{HoldsAxis, array_of}
