@@ -1,6 +1,7 @@
 -- A world of one node whose edges all have one number is that of a valid mesh.
-use Rattle.std.proofs.Common.{◌≡◌, ℕ, ◌+◌, ◌<◌, ◌^◌, Bool, true, false, not, ◌&&◌, [], length, pos, Option, Some, None, refl, sym, ap, ap₂, subst, ◌∙◌, arith}
+use Rattle.std.proofs.Common.{◌≡◌, ℕ, ◌+◌, ◌<◌, ◌^◌, Bool, true, false, not, ◌&&◌, ◌||◌, List, [], ◌∷◌, length, pos, Option, Some, None, refl, sym, ap, ap₂, subst, ◌∙◌, arith}
 use Rattle.std.specs.Prelude.{replicate, if◌then◌else◌}
+use Rattle.std.specs.List.{list_any}
 use Rattle.std.proofs.lemmas.List.{get_or-replicate}
 use Rattle.amr_num.specs.Numbers.{Within}
 use Rattle.amr_num.specs.declared.Axis.{Axis}
@@ -8,6 +9,7 @@ use Rattle.amr_num.specs.declared.Axis.TheVariants.{X, Y, Z}
 use Rattle.amr_num.specs.declared.BlockAt.{BlockAt}
 use Rattle.amr_num.specs.declared.CellAt.{CellAt}
 use Rattle.amr_num.specs.declared.EdgeAt.{EdgeAt}
+use Rattle.mesh_model.specs.Geometry.Coordinates.{round_edge}
 use Rattle.mesh_model.specs.Geometry.Places.{longer_across}
 use Rattle.mesh_model.specs.Fields.ArrayPlaces.{edge_extents, number_at, place_in}
 use Rattle.mesh_model.specs.Fields.FinePlaces.{edges_in}
@@ -20,7 +22,6 @@ use Rattle.mesh_model.specs.Tree.ValidGrid.{FewNodes, Valid}
 use Rattle.mesh_model.proofs.FieldLemmas.BlockPlaces.{place_inside}
 use Rattle.mesh_model.proofs.FieldLemmas.CellKinds.{wide_of}
 use Rattle.mesh_model.proofs.FieldLemmas.EdgeSums.{view_leaf}
-use Rattle.mesh_model.proofs.FieldLemmas.Slots.{four_failed}
 use Rattle.mesh_model.proofs.FieldLemmas.ValidGrid.{tree}
 use Rattle.mesh_model.proofs.GeometryLemmas.ShapeLimits.{cells_some}
 use Rattle.mesh_model.proofs.TreeLemmas.Nodes.{in_node}
@@ -51,6 +52,10 @@ none_split_block g valid one b = refuted _ (λ s.
 pub none_split : (g : Grid) → ((b : BlockAt) → is_split_block g b ≡ false) → (o : Option CellAt) → holds (is_split g) o ≡ false
 none_split g whole None = refl
 none_split g whole (Some c) = whole _
+
+any_none : (g : Grid) → ((b : BlockAt) → is_split_block g b ≡ false) → (os : List (Option CellAt)) → list_any (holds (is_split g)) os ≡ false
+any_none g whole [] = refl
+any_none g whole (o ∷ os) = ap₂ (λ p q. p || q) (none_split g whole o) (any_none g whole os)
 
 or_zero : (t : Bool) → Within (2 ^ 40) (if t then pos 7 else pos 0)
 or_zero true = omega arith
@@ -98,7 +103,7 @@ module _ (w : WorldState) (valid : Valid w.told.grid) (order : Sorted w.told.gri
 
   no_split : (e : EdgeAt) → is_split_edge w.told.grid e ≡ false
   unfolding is_split_edge
-  no_split e = four_failed _ _ _ _ (none_split w.told.grid whole _) (none_split w.told.grid whole _) (none_split w.told.grid whole _) (none_split w.told.grid whole _)
+  no_split e = any_none w.told.grid whole (round_edge w.told.grid.shape e)
 
   number : (a : Axis) (i j k : ℕ) → let s = w.told.grid.shape in i < longer_across a X s.n → j < longer_across a Y s.n → k < longer_across a Z s.n → edges_in w.told.grid a (edge_array false w a 0) (s.g + i) (s.g + j) (s.g + k) ≡ pos 7
   number a i j k hi hj hk =

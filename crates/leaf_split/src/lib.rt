@@ -7,3 +7,6 @@ mod faces;
 
 pub use edges::child_edges;
 pub use faces::child_faces;
+
+#[cfg(test)]
+mod tests;
