@@ -6,6 +6,7 @@ pub mod Neighbours
 pub mod PatchRows
 pub mod Patches
 pub mod Restricted
+pub mod Spreading
 pub mod TrialWorlds
 pub mod Summable
 pub mod AxisSums

@@ -124,7 +124,11 @@ fn make_child<const N: usize, const G: usize>(
 {
     match var {
         Var::Face(axis) => make_faces(world, axis, leaf, octant, block, room),
-        _ => unreachable!(),
+        Var::Edge(_) => unreachable!(),
+        Var::Cell(_) => unreachable!(),
+        Var::CellWork => unreachable!(),
+        Var::FaceWork(_) => unreachable!(),
+        Var::EdgeWork(_) => unreachable!(),
     }
 }
 

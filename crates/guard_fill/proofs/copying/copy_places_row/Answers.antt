@@ -5,6 +5,20 @@ use Rattle.guard_fill.specs.Strips.{cell_at, from_places}
 use Rattle.guard_fill.proofs.PatchRows.{row_written, taken}
 use Rattle.guard_fill.proofs.copying.copy_places_row.Goals as goal
 
+pub overflow_sub-extents-inside : goal.overflow_sub-extents-inside
+overflow_sub-extents-inside c = (let first = c.requires.reach.x.from 0 c.requires.reach.x.some in omega (arith, first))
+
+pub row-numbers-requires-clause-some : goal.row-numbers-requires-clause-some
+row-numbers-requires-clause-some c = (let first = c.requires.reach.x.from 0 c.requires.reach.x.some in omega (arith, first))
+
+pub row-numbers-requires-clause-inside : goal.row-numbers-requires-clause-inside
+row-numbers-requires-clause-inside c =
+    let reach = c.requires.reach in
+    let first = reach.x.from 0 reach.x.some in
+    let y = reach.y.from c.args.j c.requires.row.0 in
+    let z = reach.z.from c.args.k c.requires.row.1 in
+    (omega (arith, first), omega (arith, y, c.cell.ensures), omega (arith, z, c.cell-2.ensures))
+
 pub slice_bounds-copy_row-end : goal.slice_bounds-copy_row-end
 slice_bounds-copy_row-end c =
     let e = c.args.extents in
@@ -30,4 +44,5 @@ returns c =
     row_written e start p.x.many (place_in e p.x.to (p.y.to + j) (p.z.to + k)) (λ t. from_places g p numbers t j k) c.args.room.now c.copy_row.new.out c.place-to.ensures.value fits c.requires.room c.copy_row.ensures.size
     (λ t h.
     let near = reach.x.from t (subst (λ w. t < w) many h) in
-    c.copy_row.ensures.numbers t h ∙ c.row-numbers.ensures.numbers (cell_at p.x t) (omega (arith, near)) ∙ ap₂ (λ u w. numbers (g + cell_at p.x t) (g + u) (g + w)) c.cell.ensures c.cell-2.ensures)
+    let less : cell_at p.x t < e.x - 2 * g = omega (arith, near) in
+    c.copy_row.ensures.numbers t h ∙ c.row-numbers.ensures.numbers (cell_at p.x t) less ∙ ap₂ (λ u w. numbers (g + cell_at p.x t) (g + u) (g + w)) c.cell.ensures c.cell-2.ensures)

@@ -1,0 +1,141 @@
+-- Places of faces and of edges that get the views that belong there.
+use Rattle.std.proofs.Common.{◌≡◌, ◌≢◌, ℕ, zero, suc, ◌+◌, ◌-◌, ◌*◌, ◌/◌, ◌%◌, ◌^◌, ◌<◌, ◌≤◌, Bool, true, false, List, length, ℤ, refl, sym, ap, ap₂, subst, ◌∙◌, arith, inl, inr}
+use Rattle.std.proofs.lemmas.Bool.{cases_lt}
+use Rattle.amr_num.specs.declared.Axis.{Axis}
+use Rattle.amr_num.specs.declared.Axis.TheVariants.{X, Y, Z}
+use Rattle.amr_num.specs.declared.BlockAt.{BlockAt}
+use Rattle.amr_num.specs.declared.CellAt.{CellAt}
+use Rattle.amr_num.specs.declared.FaceAt.{FaceAt}
+use Rattle.mesh_model.specs.declared.geometry.Shape.{Shape}
+use Rattle.mesh_model.specs.declared.fields.values.Var.{Var}
+use Rattle.mesh_model.specs.declared.fields.values.Var.TheVariants.{Face}
+use Rattle.mesh_model.specs.Geometry.Canonical.{canonical_on}
+use Rattle.mesh_model.specs.Geometry.Coordinates.{extent, face_of, is_periodic, roots}
+use Rattle.mesh_model.specs.Geometry.Places.{guard_index, in_block}
+use Rattle.mesh_model.specs.Tree.Kinds.{Grid}
+use Rattle.mesh_model.specs.Fields.Arrays.{array_in}
+use Rattle.mesh_model.specs.Fields.ArrayPlaces.{HoldsFaces, IsInBox, IsWritten, extents_of, number_at, side}
+use Rattle.mesh_model.specs.Fields.FinePlaces.{faces_in, half_extents}
+use Rattle.mesh_model.specs.Fields.Ranks.{IsSized, WorldState, rank_at}
+use Rattle.mesh_model.specs.Fields.Views.{face_view}
+use Rattle.rank_world.specs.Holding.{LeavesHoldFaces}
+use Rattle.block_tree.specs.Numbered.{IsNode, block_at}
+use Rattle.guard_fill.specs.declared.strips.Patch.{Patch}
+use Rattle.guard_fill.specs.declared.strips.Strip.{Strip}
+use Rattle.guard_fill.specs.Guarding.{AreNodeViews, AreReaches, AreViews, IsReachedTo, IsSpread, IsSpreadTo, at_positions, canon, direction_in, there_in}
+use Rattle.guard_fill.specs.Restricting.{HasViews, NodeHas}
+use Rattle.guard_fill.specs.Strips.{AllReach, IsReach, block_of, box_of, brought_to, cell_at, from_places, named, one_more, side_at}
+use Rattle.guard_fill.proofs.AxisStrips.{reach_along, widths}
+use Rattle.guard_fill.proofs.Patches.{place_of_side, side_few, side_of_place, turn_over}
+
+-- ---- the child that a leaf would have
+
+face_named : (s : Shape) (a : Axis) (c : CellAt) → face_of a (canonical_on s a c) ≡ face_of a (canon s (Face a) c)
+face_named s X c = refl
+face_named s Y c = refl
+face_named s Z c = refl
+
+pub made_faces : (w : WorldState) (a : Axis) (view : CellAt → ℤ) (b : BlockAt) (xs : List ℤ) → AreViews w (Face a) view →
+    ((field : FaceAt → ℤ) → LeavesHoldFaces w field → HoldsFaces w.told.grid field a b (faces_in w.told.grid a xs)) →
+    let s = w.told.grid.shape in HasViews s (Face a) (λ c. view (canon s (Face a) c)) b (number_at (extents_of s.n s.g (Face a)) xs)
+made_faces w a view b xs (field, holds, is) made = record {
+  at = λ i j k hi hj hk.
+      let g = w.told.grid in
+      let c = in_block g.shape.n b i j k in
+      (made field holds).at i j k hi hj hk ∙ ap (face_view g field) (face_named g.shape a c) ∙ sym (is (canon g.shape (Face a) c));
+}
+
+-- ---- patches
+
+-- the numbers of a block, in the sizes of a world's blocks
+views_in : (s : Shape) (n e : ℕ) (var : Var) (view : CellAt → ℤ) (b : BlockAt) (xs : List ℤ) → IsSized n e s → HasViews s var view b (number_at (extents_of s.n s.g var) xs) →
+    (i j k : ℕ) → i < (half_extents n var).x → j < (half_extents n var).y → k < (half_extents n var).z → number_at (extents_of n e var) xs (e + i) (e + j) (e + k) ≡ view (in_block n b i j k)
+views_in s n e var view b xs sized has =
+    let at : ℕ → ℕ → Type 0 = λ m d. (i j k : ℕ) → i < (half_extents m var).x → j < (half_extents m var).y → k < (half_extents m var).z → number_at (extents_of m d var) xs (d + i) (d + j) (d + k) ≡ view (in_block m b i j k) in
+    subst (λ m. at m e) sized.cells (subst (λ d. at s.n d) sized.guards has.at)
+
+-- a patch that was copied from a block's views
+pub spread_from : (n e : ℕ) (w : WorldState) (var : Var) (level : ℕ) (p : Patch) (xs old new : List ℤ) → IsSized n e w.told.grid.shape → AllReach (extents_of n e var) e p →
+    IsWritten (extents_of n e var) (box_of p) (from_places e p (number_at (extents_of n e var) xs)) old new →
+    ((view : CellAt → ℤ) → AreNodeViews w var view → let s = w.told.grid.shape in HasViews s var (λ c. view (canon s var c)) (block_of level p) (number_at (extents_of s.n s.g var) xs)) →
+    IsSpread n e w var level p old new
+spread_from n e w var level p xs old new sized reach is views = record {
+  size = is.size;
+  stays = is.stays;
+  views = λ view of i j k hi hj hk.
+      let wide = widths n e var in
+      let x = reach.x.from i hi in
+      let y = reach.y.from j hj in
+      let z = reach.z.from k hk in
+      is.written i j k hi hj hk
+      ∙ views_in w.told.grid.shape n e var (λ c. view (canon w.told.grid.shape var c)) (block_of level p) xs sized (views view of) (cell_at p.x i) (cell_at p.y j) (cell_at p.z k)
+      (omega (arith, x, wide.x, wide.own_x)) (omega (arith, y, wide.y, wide.own_y)) (omega (arith, z, wide.z, wide.own_z));
+}
+
+-- ---- what stands for a place
+
+-- on an axis
+stands : (s : Shape) (a : Axis) (positions : Bool) (n e l b d t : ℕ) (st : Strip) → s.n ≡ n → IsReach n e positions (is_periodic s a) (roots s a * 2 ^ l) b d st → t < st.many →
+    brought_to positions (is_periodic s a) (extent s a l) (guard_index n e b (st.to + t)) ≡ named positions (is_periodic s a) (extent s a l) (n * st.block + cell_at st t)
+stands s a positions n e l b d t st same is h =
+    let all : roots s a * 2 ^ l * n ≡ extent s a l = turn_over (roots s a) n l ∙ ap (λ m. roots s a * m * 2 ^ l) (sym same) in
+    subst (λ m. brought_to positions (is_periodic s a) m (guard_index n e b (st.to + t)) ≡ named positions (is_periodic s a) m (n * st.block + cell_at st t)) all (is.stand t h)
+
+three_digits : (a b c d : ℕ) → a < 3 → b < 3 → c < 3 → a + 3 * b + 9 * c ≡ d → (a ≡ d % 3) × (b ≡ d / 3 % 3) × (c ≡ d / 9)
+three_digits a b c d ha hb hc is = (omega arith, omega arith, omega arith)
+
+pub direction_small : (var : Var) (n g i j k : ℕ) → direction_in var n g i j k < 27
+direction_small var n g i j k =
+    let a = side_few (one_more (at_positions var X) n) g i in
+    let b = side_few (one_more (at_positions var Y) n) g j in
+    let c = side_few (one_more (at_positions var Z) n) g k in
+    omega arith
+
+-- ---- a patch in its direction
+
+module _ (n e d : ℕ) (w : WorldState) (var : Var) (b : BlockAt) (p : Patch) (old new : List ℤ) (few : d < 27) (sized : IsSized n e w.told.grid.shape)
+    (is : AreReaches n e w.told.grid.shape var b d p) (done : IsSpread n e w var b.level p old new) where
+  abbrev mx : ℕ
+  mx = one_more (at_positions var X) n
+  abbrev my : ℕ
+  my = one_more (at_positions var Y) n
+  abbrev mz : ℕ
+  mz = one_more (at_positions var Z) n
+
+  -- a place of the box lies in the direction
+  in_direction : (i j k : ℕ) → IsInBox (box_of p) i j k → direction_in var n e i j k ≡ d
+  in_direction i j k inside =
+      let x = side_of_place mx e (d % 3) i (omega arith) (let l = inside.x.0 in let t = is.x.to in omega arith) (let l = inside.x.1 in let t = is.x.to in let m = is.x.many in omega arith) in
+      let y = side_of_place my e (d / 3 % 3) j (omega arith) (let l = inside.y.0 in let t = is.y.to in omega arith) (let l = inside.y.1 in let t = is.y.to in let m = is.y.many in omega arith) in
+      let z = side_of_place mz e (d / 9) k (omega arith) (let l = inside.z.0 in let t = is.z.to in omega arith) (let l = inside.z.1 in let t = is.z.to in let m = is.z.many in omega arith) in
+      let sum : side_at mx e i + 3 * side_at my e j + 9 * side_at mz e k ≡ d % 3 + 3 * (d / 3 % 3) + 9 * (d / 9) = ap₂ (λ u r. u + 3 * r + 9 * side_at mz e k) x y ∙ ap (λ u. d % 3 + 3 * (d / 3 % 3) + 9 * u) z in
+      sum ∙ omega arith
+
+  pub spread_to : IsSpreadTo n e w var b d old new
+  spread_to = record {
+    size = done.size;
+    stays = λ i j k hi hj hk off. done.stays i j k hi hj hk (λ inside. off (in_direction i j k inside));
+    guards = λ view of i j k hi hj hk here.
+        let wide = widths n e var in
+        let sides = three_digits (side_at mx e i) (side_at my e j) (side_at mz e k) d (side_few mx e i) (side_few my e j) (side_few mz e k) here in
+        let x = place_of_side mx e (d % 3) i (subst (λ m. i < m) wide.x hi) sides.0 in
+        let y = place_of_side my e (d / 3 % 3) j (subst (λ m. j < m) wide.y hj) sides.1 in
+        let z = place_of_side mz e (d / 9) k (subst (λ m. k < m) wide.z hk) sides.2 in
+        let tx = i - p.x.to in
+        let ty = j - p.y.to in
+        let tz = k - p.z.to in
+        let lx : tx < p.x.many = (let t = is.x.to in let m = is.x.many in omega arith) in
+        let ly : ty < p.y.many = (let t = is.y.to in let m = is.y.many in omega arith) in
+        let lz : tz < p.z.many = (let t = is.z.to in let m = is.z.many in omega arith) in
+        let ex : p.x.to + tx ≡ i = (let t = is.x.to in omega arith) in
+        let ey : p.y.to + ty ≡ j = (let t = is.y.to in omega arith) in
+        let ez : p.z.to + tz ≡ k = (let t = is.z.to in omega arith) in
+        let s = w.told.grid.shape in
+        let sx = ap (λ u. brought_to (at_positions var X) (is_periodic s X) (extent s X b.level) (guard_index n e b.x u)) (sym ex) ∙ stands s X (at_positions var X) n e b.level b.x (d % 3) tx p.x sized.cells is.x lx in
+        let sy = ap (λ u. brought_to (at_positions var Y) (is_periodic s Y) (extent s Y b.level) (guard_index n e b.y u)) (sym ey) ∙ stands s Y (at_positions var Y) n e b.level b.y (d / 3 % 3) ty p.y sized.cells is.y ly in
+        let sz = ap (λ u. brought_to (at_positions var Z) (is_periodic s Z) (extent s Z b.level) (guard_index n e b.z u)) (sym ez) ∙ stands s Z (at_positions var Z) n e b.level b.z (d / 9) tz p.z sized.cells is.z lz in
+        let same : there_in n e s var b i j k ≡ canon s var (in_block n (block_of b.level p) (cell_at p.x tx) (cell_at p.y ty) (cell_at p.z tz)) =
+        (λ t. record { level = b.level; x = sx t; y = sy t; z = sz t }) in
+        ap (λ u. number_at (extents_of n e var) new u j k) (sym ex) ∙ ap₂ (λ u r. number_at (extents_of n e var) new (p.x.to + tx) u r) (sym ey) (sym ez)
+        ∙ done.views view of tx ty tz lx ly lz ∙ ap view (sym same);
+  }
