@@ -9,6 +9,7 @@ use Rattle.amr_num.specs.declared.FaceAt.{FaceAt}
 use Rattle.mesh_model.specs.declared.geometry.Shape.{Shape}
 use Rattle.mesh_model.specs.declared.fields.values.Var.{Var}
 use Rattle.mesh_model.specs.declared.fields.values.Var.TheVariants.{Face}
+use Rattle.mesh_model.specs.Geometry.Blocks.{InDomain}
 use Rattle.mesh_model.specs.Geometry.Canonical.{canonical_on}
 use Rattle.mesh_model.specs.Geometry.Coordinates.{extent, face_of, is_periodic, roots}
 use Rattle.mesh_model.specs.Geometry.Places.{guard_index, in_block}
@@ -139,3 +140,90 @@ module _ (n e d : ℕ) (w : WorldState) (var : Var) (b : BlockAt) (p : Patch) (o
         ap (λ u. number_at (extents_of n e var) new u j k) (sym ex) ∙ ap₂ (λ u r. number_at (extents_of n e var) new (p.x.to + tx) u r) (sym ey) (sym ez)
         ∙ done.views view of tx ty tz lx ly lz ∙ ap view (sym same);
   }
+
+-- ---- direction by direction
+
+own_strip : ℕ → ℕ → ℕ → Strip
+own_strip m g b = record { to = g; many = m; block = b; first = 0; step = 1 }
+
+own_patch : ℕ → ℕ → Var → BlockAt → Patch
+own_patch n g var b = record { x = own_strip (one_more (at_positions var X) n) g b.x; y = own_strip (one_more (at_positions var Y) n) g b.y; z = own_strip (one_more (at_positions var Z) n) g b.z }
+
+-- a place of the block's own lies in the direction of its own places
+own_direction : (var : Var) (n g i j k : ℕ) → i < (half_extents n var).x → j < (half_extents n var).y → k < (half_extents n var).z → direction_in var n g (g + i) (g + j) (g + k) ≡ 13
+own_direction var n g i j k hi hj hk =
+    let wide = widths n g var in
+    let at : (m t : ℕ) → t < m → side_at m g (g + t) ≡ 1 = (λ m t h. side_of_place m g 1 (g + t) (omega arith) (omega arith) (omega arith)) in
+    let x = at (one_more (at_positions var X) n) i (subst (λ m. i < m) wide.own_x hi) in
+    let y = at (one_more (at_positions var Y) n) j (subst (λ m. j < m) wide.own_y hj) in
+    let z = at (one_more (at_positions var Z) n) k (subst (λ m. k < m) wide.own_z hk) in
+    ap₂ (λ u r. u + 3 * r + 9 * side_at (one_more (at_positions var Z) n) g (g + k)) x y ∙ ap (λ u. 1 + 3 * 1 + 9 * u) z
+
+-- it stands within the array
+own_within : (n g : ℕ) (var : Var) → ((i : ℕ) → i < (half_extents n var).x → g + i < (extents_of n g var).x)
+    × ((i : ℕ) → i < (half_extents n var).y → g + i < (extents_of n g var).y) × ((i : ℕ) → i < (half_extents n var).z → g + i < (extents_of n g var).z)
+own_within n g var =
+    let w = widths n g var in
+    (λ i h. omega (arith, w.x, w.own_x, h), λ i h. omega (arith, w.y, w.own_y, h), λ i h. omega (arith, w.z, w.own_z, h))
+
+module _ (n e : ℕ) (w : WorldState) (var : Var) (node : ℕ) (sized : IsSized n e w.told.grid.shape) where
+  abbrev pub block : BlockAt
+  block = block_at w.told.grid node
+
+  abbrev pub array : List ℤ
+  array = array_in (rank_at w 0).own.values var node
+
+  -- nothing but the leaf's own numbers
+  pub none_reached : (xs : List ℤ) → xs ≡ array → IsReachedTo n e w var node 0 xs
+  none_reached xs is = subst (IsReachedTo n e w var node 0) (sym is) (record { size = refl; own = λ i j k hi hj hk. refl; guards = λ view of i j k hi hj hk h. absurd (omega arith) })
+
+  -- one more direction
+  one_reached : (d : ℕ) (old new : List ℤ) → IsReachedTo n e w var node d old → IsSpreadTo n e w var block d old new →
+      ((i j k : ℕ) → i < (half_extents n var).x → j < (half_extents n var).y → k < (half_extents n var).z → number_at (extents_of n e var) new (e + i) (e + j) (e + k) ≡ number_at (extents_of n e var) old (e + i) (e + j) (e + k)) → IsReachedTo n e w var node (d + 1) new
+  one_reached d old new before fill keeps = record {
+    size = fill.size ∙ before.size;
+    own = λ i j k hi hj hk. keeps i j k hi hj hk ∙ before.own i j k hi hj hk;
+    guards = λ view of i j k hi hj hk h. elim (cases_lt (direction_in var n e i j k) d) [
+      | inl less ↦ fill.stays i j k hi hj hk (λ is. omega arith) ∙ before.guards view of i j k hi hj hk less
+      | inr last ↦ fill.guards view of i j k hi hj hk (omega arith)
+    ];
+  }
+
+  -- one in which guard places lie
+  pub guards_reached : (d : ℕ) (old new : List ℤ) → d ≢ 13 → IsReachedTo n e w var node d old → IsSpreadTo n e w var block d old new → IsReachedTo n e w var node (d + 1) new
+  guards_reached d old new ne before fill =
+      let within = own_within n e var in
+      one_reached d old new before fill (λ i j k hi hj hk. fill.stays (e + i) (e + j) (e + k) (within.0 i hi) (within.1 j hj) (within.2 k hk) (λ is. ne (sym is ∙ own_direction var n e i j k hi hj hk)))
+
+  -- and that of the leaf's own places
+  pub own_reached : (xs : List ℤ) → InDomain w.told.grid.shape block → IsNode w.told.grid node → IsReachedTo n e w var node 13 xs → IsReachedTo n e w var node 14 xs
+  unfolding own_patch own_strip
+  own_reached xs inside there before =
+      let s = w.told.grid.shape in
+      let b = block_at w.told.grid node in
+      let p = own_patch n e var b in
+      let wide = widths n e var in
+      let is : AreReaches n e s var b 13 p = record {
+        x = reach_along n e (at_positions var X) (is_periodic s X) (roots s X * 2 ^ b.level) b.x (one_more (at_positions var X) n) inside.x refl;
+        y = reach_along n e (at_positions var Y) (is_periodic s Y) (roots s Y * 2 ^ b.level) b.y (one_more (at_positions var Y) n) inside.y refl;
+        z = reach_along n e (at_positions var Z) (is_periodic s Z) (roots s Z * 2 ^ b.level) b.z (one_more (at_positions var Z) n) inside.z refl;
+      } in
+      let done : IsSpread n e w var b.level p xs xs = record {
+        size = refl;
+        stays = λ i j k hi hj hk off. refl;
+        views = λ view of i j k hi hj hk.
+            let x : n * b.x + i ≡ n * b.x + (0 + 1 * i) = omega arith in
+            let y : n * b.y + j ≡ n * b.y + (0 + 1 * j) = omega arith in
+            let z : n * b.z + k ≡ n * b.z + (0 + 1 * k) = omega arith in
+            let wx = subst (λ m. i < m) (sym wide.own_x) hi in
+            let wy = subst (λ m. j < m) (sym wide.own_y) hj in
+            let wz = subst (λ m. k < m) (sym wide.own_z) hk in
+            before.own i j k wx wy wz ∙ views_in s n e var (λ c. view (canon s var c)) b array sized (of.nodes node there) i j k wx wy wz
+            ∙ ap (λ c. view (canon s var c)) (λ t. record { level = b.level; x = x t; y = y t; z = z t });
+      } in
+      one_reached 13 xs xs before (spread_to n e 13 w var b p xs xs (omega arith) sized is done) (λ i j k hi hj hk. refl)
+
+  -- a place lies in one of the 27 directions
+  pub all_reached : (xs : List ℤ) → IsReachedTo n e w var node 27 xs → (view : CellAt → ℤ) → AreNodeViews w var view → (i j k : ℕ) → i < (extents_of n e var).x → j < (extents_of n e var).y → k < (extents_of n e var).z →
+      number_at (extents_of n e var) xs i j k ≡ view (there_in n e w.told.grid.shape var block i j k)
+  all_reached xs all view of i j k hi hj hk = all.guards view of i j k hi hj hk (direction_small var n e i j k)

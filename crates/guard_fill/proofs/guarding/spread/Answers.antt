@@ -11,7 +11,7 @@ use Rattle.guard_fill.proofs.Spreading.{spread_from}
 use Rattle.guard_fill.proofs.guarding.spread.Goals as goal
 
 pub copy_places-requires-clause-small : goal.copy_places-requires-clause-small
-copy_places-requires-clause-small g c = subst (λ (e : Extents). (e.x ≤ 17) × (e.y ≤ 17) × (e.z ≤ 17)) (sym c.of-extents.ensures) (extents_short g.row.N g.row.G c.requires.ready.size c.args.var)
+copy_places-requires-clause-small g c = subst (λ (e : Extents). (e.x ≤ 17) × (e.y ≤ 17) × (e.z ≤ 17)) (sym c.of.ensures) (extents_short g.row.N g.row.G c.requires.ready.size c.args.var)
 
 pub spread_child-requires : goal.spread_child-requires
 spread_child-requires g c =
@@ -36,7 +36,7 @@ returns-in-Some-clause-spread g c =
     let xs = c.values-values.result.now in
     let found : IsNumberOf w.told.grid b node = subst (λ (h : Grid). IsNumberOf h b node) c.tree.ensures c.in-Some.ensures in
     spread_from n e w var c.args.level p xs c.args.room.now c.copy_places.new.room c.requires.ready.fit.sizes c.requires.reach
-    (subst (λ (x : Extents). IsWritten x (box_of p) (from_places e p (number_at x xs)) c.args.room.now c.copy_places.new.room) c.of-extents.ensures c.copy_places.ensures)
+    (subst (λ (x : Extents). IsWritten x (box_of p) (from_places e p (number_at x xs)) c.args.room.now c.copy_places.new.room) c.of.ensures c.copy_places.ensures)
     (λ view of.
     subst (λ u. HasViews s var (λ d. view (canon s var d)) u (number_at (extents_of s.n s.g var) xs)) found.block
     (subst (λ (ys : List ℤ). HasViews s var (λ d. view (canon s var d)) (block_at w.told.grid node) (number_at (extents_of s.n s.g var) ys)) (sym c.values-values.ensures.value) (of.nodes node found.there)))

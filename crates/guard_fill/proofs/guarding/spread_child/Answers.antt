@@ -24,7 +24,7 @@ make_child-requires g c =
     (omega arith, (c.requires.ready, (c.requires.field, (c.requires.mesh, (is_leaf, (omega arith, (child, (c.requires.inside, c.requires.child))))))))
 
 pub copy_places-requires-clause-small : goal.copy_places-requires-clause-small
-copy_places-requires-clause-small g c = subst (λ (e : Extents). (e.x ≤ 17) × (e.y ≤ 17) × (e.z ≤ 17)) (sym c.of-extents.ensures) (extents_short g.row.N g.row.G c.requires.ready.size c.args.var)
+copy_places-requires-clause-small g c = subst (λ (e : Extents). (e.x ≤ 17) × (e.y ≤ 17) × (e.z ≤ 17)) (sym c.of.ensures) (extents_short g.row.N g.row.G c.requires.ready.size c.args.var)
 
 pub returns-clause-spread : goal.returns-clause-spread
 returns-clause-spread g c =
@@ -36,5 +36,5 @@ returns-clause-spread g c =
     let p = c.args.patch in
     let xs = c.make_child.new.room in
     spread_from n e w var c.args.block.level p xs c.args.room.now c.copy_places.new.room c.requires.ready.fit.sizes c.requires.reach
-    (subst (λ (x : Extents). IsWritten x (box_of p) (from_places e p (number_at x xs)) c.args.room.now c.copy_places.new.room) c.of-extents.ensures c.copy_places.ensures)
+    (subst (λ (x : Extents). IsWritten x (box_of p) (from_places e p (number_at x xs)) c.args.room.now c.copy_places.new.room) c.of.ensures c.copy_places.ensures)
     (λ view of. subst (λ u. HasViews s var (λ d. view (canon s var d)) u (number_at (extents_of s.n s.g var) xs)) c.requires.block (c.make_child.ensures.views view of.views))
