@@ -5,6 +5,7 @@ pub mod NearViews
 pub mod Neighbours
 pub mod PatchRows
 pub mod Patches
+pub mod Reached
 pub mod Restricted
 pub mod Spreading
 pub mod TrialWorlds
