@@ -1,3 +1,4 @@
+pub mod AxisGuards
 pub mod AxisStrips
 pub mod Filled
 pub mod Gathering

@@ -5,21 +5,22 @@ use Rattle.amr_num.specs.declared.Axis.{Axis}
 use Rattle.amr_num.specs.declared.Axis.TheVariants.{X, Y, Z}
 use Rattle.amr_num.specs.declared.BlockAt.{BlockAt}
 use Rattle.amr_num.specs.declared.CellAt.{CellAt}
+use Rattle.amr_num.specs.declared.EdgeAt.{EdgeAt}
 use Rattle.amr_num.specs.declared.FaceAt.{FaceAt}
 use Rattle.mesh_model.specs.declared.geometry.Shape.{Shape}
 use Rattle.mesh_model.specs.declared.fields.values.Var.{Var}
-use Rattle.mesh_model.specs.declared.fields.values.Var.TheVariants.{Face}
+use Rattle.mesh_model.specs.declared.fields.values.Var.TheVariants.{Edge, Face}
 use Rattle.mesh_model.specs.Geometry.Blocks.{InDomain}
 use Rattle.mesh_model.specs.Geometry.Canonical.{canonical_on}
-use Rattle.mesh_model.specs.Geometry.Coordinates.{extent, face_of, is_periodic, roots}
+use Rattle.mesh_model.specs.Geometry.Coordinates.{edge_of, extent, face_of, is_periodic, next, roots}
 use Rattle.mesh_model.specs.Geometry.Places.{guard_index, in_block}
 use Rattle.mesh_model.specs.Tree.Kinds.{Grid}
 use Rattle.mesh_model.specs.Fields.Arrays.{array_in}
-use Rattle.mesh_model.specs.Fields.ArrayPlaces.{HoldsFaces, IsInBox, IsWritten, extents_of, number_at, side}
-use Rattle.mesh_model.specs.Fields.FinePlaces.{faces_in, half_extents}
+use Rattle.mesh_model.specs.Fields.ArrayPlaces.{HoldsEdges, HoldsFaces, IsInBox, IsWritten, extents_of, number_at, side}
+use Rattle.mesh_model.specs.Fields.FinePlaces.{edges_in, faces_in, half_extents}
 use Rattle.mesh_model.specs.Fields.Ranks.{IsSized, WorldState, rank_at}
-use Rattle.mesh_model.specs.Fields.Views.{face_view}
-use Rattle.rank_world.specs.Holding.{LeavesHoldFaces}
+use Rattle.mesh_model.specs.Fields.Views.{edge_view, face_view}
+use Rattle.rank_world.specs.Holding.{LeavesHoldEdges, LeavesHoldFaces}
 use Rattle.block_tree.specs.Numbered.{IsNode, block_at}
 use Rattle.guard_fill.specs.declared.strips.Patch.{Patch}
 use Rattle.guard_fill.specs.declared.strips.Strip.{Strip}
@@ -31,10 +32,25 @@ use Rattle.guard_fill.proofs.Patches.{place_of_side, side_few, side_of_place, tu
 
 -- ---- the child that a leaf would have
 
-face_named : (s : Shape) (a : Axis) (c : CellAt) → face_of a (canonical_on s a c) ≡ face_of a (canon s (Face a) c)
+pub face_named : (s : Shape) (a : Axis) (c : CellAt) → face_of a (canonical_on s a c) ≡ face_of a (canon s (Face a) c)
 face_named s X c = refl
 face_named s Y c = refl
 face_named s Z c = refl
+
+pub edge_named : (s : Shape) (a : Axis) (c : CellAt) → edge_of a (canonical_on s (next a) (canonical_on s (next (next a)) c)) ≡ edge_of a (canon s (Edge a) c)
+edge_named s X c = refl
+edge_named s Y c = refl
+edge_named s Z c = refl
+
+pub made_edges : (w : WorldState) (a : Axis) (view : CellAt → ℤ) (b : BlockAt) (xs : List ℤ) → AreViews w (Edge a) view →
+    ((field : EdgeAt → ℤ) → LeavesHoldEdges false w field → HoldsEdges w.told.grid field a b (edges_in w.told.grid a xs)) →
+    let s = w.told.grid.shape in HasViews s (Edge a) (λ c. view (canon s (Edge a) c)) b (number_at (extents_of s.n s.g (Edge a)) xs)
+made_edges w a view b xs (field, holds, is) made = record {
+  at = λ i j k hi hj hk.
+      let g = w.told.grid in
+      let c = in_block g.shape.n b i j k in
+      (made field holds).at i j k hi hj hk ∙ ap (edge_view g field) (edge_named g.shape a c) ∙ sym (is (canon g.shape (Edge a) c));
+}
 
 pub made_faces : (w : WorldState) (a : Axis) (view : CellAt → ℤ) (b : BlockAt) (xs : List ℤ) → AreViews w (Face a) view →
     ((field : FaceAt → ℤ) → LeavesHoldFaces w field → HoldsFaces w.told.grid field a b (faces_in w.told.grid a xs)) →
