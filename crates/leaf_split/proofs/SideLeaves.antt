@@ -43,7 +43,7 @@ same_level X p b = refl
 same_level Y p b = refl
 same_level Z p b = refl
 
-side_by_side : (p high : Bool) (e b d : ℕ) → Neighbours p e high b d → Meet p e b (suc b) d (suc d)
+pub side_by_side : (p high : Bool) (e b d : ℕ) → Neighbours p e high b d → Meet p e b (suc b) d (suc d)
 side_by_side p false e b d (inl is) = inl (omega arith, omega arith)
 side_by_side p false e b d (inr (t, first, end)) = inr (t, inl (omega arith))
 side_by_side p true e b d (inl is, within) = inl (omega arith, omega arith)
@@ -125,7 +125,7 @@ module _ (g : Grid) (a : Axis) (b : BlockAt) (some : 0 < g.shape.n) (inside : In
 -- ---- one face, by its names in two blocks
 
 -- the position where blocks side by side meet
-seam_position : (p high : Bool) (e n b d : ℕ) → 0 < n → b < e → Neighbours p e high b d → wrapped p (e * n) (n * d + side_position n (not high)) ≡ wrapped p (e * n) (n * b + side_position n high)
+pub seam_position : (p high : Bool) (e n b d : ℕ) → 0 < n → b < e → Neighbours p e high b d → wrapped p (e * n) (n * d + side_position n (not high)) ≡ wrapped p (e * n) (n * b + side_position n high)
 seam_position p false e n b d some inside (inl is) = let times = ap (λ m. n * m) is in let at : n * d + n ≡ n * b + 0 = omega arith in ap (wrapped p (e * n)) at
 seam_position p false e n b d some inside (inr (t, first, end)) =
     let row = in_row n b e 0 inside some in
@@ -139,7 +139,7 @@ seam_position p true e n b d some inside (inr (t, first, end), within) =
     let none : n * d + 0 ≡ 0 = (let times = ap (λ m. n * m) first in omega arith) in
     inside_stays p (e * n) (n * d + 0) row ∙ none ∙ sym (wrapped_end (e * n)) ∙ ap₂ (λ (u : Bool) q. wrapped u (e * n) q) (sym t) far
 
-extent_is : (r n l : ℕ) → r * 2 ^ l * n ≡ r * n * 2 ^ l
+pub extent_is : (r n l : ℕ) → r * 2 ^ l * n ≡ r * n * 2 ^ l
 extent_is r n l = grind arith
 
 named_with : (s : Shape) (a : Axis) (b : BlockAt) (w p q x y : ℕ) → wrapped (is_periodic s a) (extent s a b.level) (s.n * w + q) ≡ wrapped (is_periodic s a) (extent s a b.level) (s.n * block_on a b + p) →

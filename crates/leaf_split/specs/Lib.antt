@@ -1,1 +1,3 @@
 pub mod FaceKeeps
+pub mod EdgeKeeps
+pub mod Tried

@@ -2,6 +2,11 @@
 //! of the leaves of its level that stand there.
 #![tactic(auto)]
 
+mod edges;
 mod faces;
 
+pub use edges::child_edges;
 pub use faces::child_faces;
+
+#[cfg(test)]
+mod tests;

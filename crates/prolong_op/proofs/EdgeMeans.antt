@@ -1,5 +1,5 @@
 -- Floored means of the edges at even positions, and a child's edges that are split where the parts and the means are there.
-use Rattle.std.proofs.Common.{◌≡◌, ℕ, zero, suc, ◌+◌, ◌-◌, ◌*◌, ◌/◌, ◌%◌, ◌<◌, ◌≤◌, Bool, true, false, not, ◌&&◌, ◌==◌, List, [], ◌∷◌, ℤ, pos, negsuc, ◌+ℤ◌, refl, sym, ap, ap₂, ◌∙◌, arith, inl, inr, subst, length, map, eqb-true}
+use Rattle.std.proofs.Common.{◌≡◌, ℕ, ◌+◌, ◌-◌, ◌*◌, ◌/◌, ◌%◌, ◌<◌, ◌≤◌, Bool, true, false, not, ◌&&◌, List, [], ◌∷◌, ℤ, pos, negsuc, ◌+ℤ◌, refl, sym, ap, ap₂, ◌∙◌, arith, inl, inr, subst, length, map, eqb-true}
 use Rattle.std.specs.Prelude.{flat_map, if◌then◌else◌}
 use Rattle.std.proofs.lemmas.Bool.{and_parts, cases_Bool, cases_lt}
 use Rattle.std.proofs.lemmas.Int.{ints}
@@ -56,10 +56,10 @@ low_even p = p - p % 2
 abbrev pub high_even : ℕ → ℕ
 high_even p = p + p % 2
 
-one_even : (p : ℕ) → is_even p ≡ true → (even_positions p ≡ (p ∷ [])) × (low_even p ≡ p) × (high_even p ≡ p)
+pub one_even : (p : ℕ) → is_even p ≡ true → (even_positions p ≡ (p ∷ [])) × (low_even p ≡ p) × (high_even p ≡ p)
 one_even p h = let even = even_of p h in (rw h refl, omega arith, omega arith)
 
-two_even : (p : ℕ) → is_even p ≡ false → (even_positions p ≡ ((p - 1) ∷ (p + 1) ∷ [])) × (low_even p ≡ p - 1) × (high_even p ≡ p + 1)
+pub two_even : (p : ℕ) → is_even p ≡ false → (even_positions p ≡ ((p - 1) ∷ (p + 1) ∷ [])) × (low_even p ≡ p - 1) × (high_even p ≡ p + 1)
 two_even p h = let odd = odd_of p h in (rw h refl, omega arith, omega arith)
 
 abbrev pub four_mean : (ℕ → ℕ → ℤ) → ℕ → ℕ → ℕ → ℕ → ℤ
@@ -69,10 +69,10 @@ four_at : (f : ℕ → ℕ → ℤ) (low high near far a b c d : ℕ) → low �
 four_at f low high near far a b c d e1 e2 e3 e4 =
     ap₂ (λ u v. four_mean f u v near far) e1 e2 ∙ ap₂ (λ u v. four_mean f a b u v) e3 e4
 
-abbrev numbers_at : (ℕ → ℕ → ℤ) → List ℕ → List ℕ → List ℤ
+abbrev pub numbers_at : (ℕ → ℕ → ℤ) → List ℕ → List ℕ → List ℤ
 numbers_at f ps rs = flat_map (λ p. map (λ r. f p r) rs) ps
 
-abbrev mean_at : (ℕ → ℕ → ℤ) → List ℕ → List ℕ → ℤ
+abbrev pub mean_at : (ℕ → ℕ → ℤ) → List ℕ → List ℕ → ℤ
 mean_at f ps rs = floor_div (sum_of (numbers_at f ps rs)) (length (numbers_at f ps rs))
 
 -- the mean of the numbers at them is that of four

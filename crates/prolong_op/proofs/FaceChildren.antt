@@ -61,16 +61,16 @@ cross_small Z i j k = omega arith
 
 -- ---- which of three numbers a face has
 
-pick_kept : (s e : Bool) (o p b : ℤ) → s ≡ true → (if s then o else (if e then p else b)) ≡ o
+pub pick_kept : (s e : Bool) (o p b : ℤ) → s ≡ true → (if s then o else (if e then p else b)) ≡ o
 pick_kept true e o p b h = refl
 pick_kept false e o p b h = cc
 
-pick_part : (s e : Bool) (o p b : ℤ) → s ≡ false → e ≡ true → (if s then o else (if e then p else b)) ≡ p
+pub pick_part : (s e : Bool) (o p b : ℤ) → s ≡ false → e ≡ true → (if s then o else (if e then p else b)) ≡ p
 pick_part false true o p b h l = refl
 pick_part true e o p b h l = cc
 pick_part s false o p b h l = cc
 
-pick_rule : (s e : Bool) (o p b : ℤ) → s ≡ false → e ≡ false → (if s then o else (if e then p else b)) ≡ b
+pub pick_rule : (s e : Bool) (o p b : ℤ) → s ≡ false → e ≡ false → (if s then o else (if e then p else b)) ≡ b
 pick_rule false false o p b h l = refl
 pick_rule true e o p b h l = cc
 pick_rule s true o p b h l = cc
@@ -88,7 +88,7 @@ even_quarter Z u v w r = even_is (2 * w + 0) (omega arith)
 
 module _ (g : Grid) (b : BlockAt) (q : ℕ) (valid : Valid g) (domain : InDomain g.shape b) (whole : is_split_block g b ≡ false) where
   -- its cells are neither split nor leaf cells
-  calm : (i j k : ℕ) → i < g.shape.n → j < g.shape.n → k < g.shape.n →
+  pub calm : (i j k : ℕ) → i < g.shape.n → j < g.shape.n → k < g.shape.n →
       (is_split g (in_block g.shape.n (child_block b q) i j k) ≡ false) × (is_leaf g (in_block g.shape.n (child_block b q) i j k) ≡ false)
   calm i j k hi hj hk =
       let n = g.shape.n in

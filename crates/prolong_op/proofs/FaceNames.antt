@@ -27,7 +27,7 @@ unfolding wrapped
 wrapped_twice false e p = refl
 wrapped_twice true e p = grind (arith, nat_tests)
 
-turned : (s : Shape) (a : Axis) (l p : ℕ) → wrapped (is_periodic s a) (extent s a (suc l)) (2 * p + 0) ≡ 2 * wrapped (is_periodic s a) (extent s a l) p + 0
+pub turned : (s : Shape) (a : Axis) (l p : ℕ) → wrapped (is_periodic s a) (extent s a (suc l)) (2 * p + 0) ≡ 2 * wrapped (is_periodic s a) (extent s a l) p + 0
 turned s a l p =
     let at : 2 * p + 0 ≡ 2 * p = omega arith in
     let more : 2 * wrapped (is_periodic s a) (extent s a l) p ≡ 2 * wrapped (is_periodic s a) (extent s a l) p + 0 = omega arith in
@@ -45,7 +45,7 @@ canonical_sub_face s Z c r =
     let z = turned s Z c.level c.z in
     λ t. record { axis = Z; level = suc c.level; x = 2 * c.x + r % 2; y = 2 * c.y + r / 2 % 2; z = z t }
 
-wrapped_below : (b : Bool) (e p : ℕ) → p < e → wrapped b e p ≡ p
+pub wrapped_below : (b : Bool) (e p : ℕ) → p < e → wrapped b e p ≡ p
 unfolding wrapped
 wrapped_below true e p h = wrapped_inside e p h
 wrapped_below false e p h = refl
@@ -104,7 +104,7 @@ sub_cell_of n b q i j k size =
 
 -- ---- cells of a block of the domain
 
-line_inside : (n r l x i : ℕ) → (n ≡ 4) ⊎ (n ≡ 8) → x < r * 2 ^ l → i < n → n * x + i < r * n * 2 ^ l
+pub line_inside : (n r l x i : ℕ) → (n ≡ 4) ⊎ (n ≡ 8) → x < r * 2 ^ l → i < n → n * x + i < r * n * 2 ^ l
 line_inside n r l x i size h less =
     let turn : n * (r * 2 ^ l) ≡ r * n * 2 ^ l = grind arith in
     let room = by_size (λ m. x < r * 2 ^ l → i < m → m * x + i < m * (r * 2 ^ l)) n size (λ p u. omega arith) (λ p u. omega arith) h less in
@@ -115,7 +115,7 @@ pub block_inside : (s : Shape) (b : BlockAt) → (s.n ≡ 4) ⊎ (s.n ≡ 8) →
 block_inside s b size x y z i j k hi hj hk =
     three (λ a. on a (in_block s.n b i j k) < extent s a b.level) (line_inside s.n s.rx b.level b.x i size x hi) (line_inside s.n s.ry b.level b.y j size y hj) (line_inside s.n s.rz b.level b.z k size z hk)
 
-twice_below : (r l x d : ℕ) → x < r * 2 ^ l → d < 2 → 2 * x + d < r * 2 ^ suc l
+pub twice_below : (r l x d : ℕ) → x < r * 2 ^ l → d < 2 → 2 * x + d < r * 2 ^ suc l
 twice_below r l x d h less = let turn : r * 2 ^ suc l ≡ 2 * (r * 2 ^ l) = grind arith in omega arith
 
 pub child_inside : (s : Shape) (b : BlockAt) (q : ℕ) → (s.n ≡ 4) ⊎ (s.n ≡ 8) → InDomain s b → (i j k : ℕ) → i < s.n → j < s.n → k < s.n → Inside s (in_block s.n (child_block b q) i j k)

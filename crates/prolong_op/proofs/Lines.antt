@@ -5,7 +5,7 @@ use Rattle.amr_num.specs.declared.Axis.{Axis}
 use Rattle.amr_num.specs.declared.Axis.TheVariants.{X, Y, Z}
 use Rattle.amr_num.specs.Numbers.{at}
 use Rattle.mesh_model.specs.Geometry.Places.{longer_across, longer_on}
-use Rattle.mesh_model.specs.Fields.ArrayPlaces.{Box, Extents, Fits, IsRowWritten, IsSize, edge_extents, face_extents, number_at, place_in, side, size_of}
+use Rattle.mesh_model.specs.Fields.ArrayPlaces.{Extents, Fits, IsRowWritten, IsSize, edge_extents, face_extents, number_at, place_in, side, size_of}
 use Rattle.mesh_model.specs.Fields.FaceSplits.{face_above}
 use Rattle.mesh_model.specs.Fields.Octants.{half_at}
 use Rattle.mesh_model.proofs.GeometryLemmas.Halves.{by_size}

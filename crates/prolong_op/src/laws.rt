@@ -1,5 +1,6 @@
 //! Laws of parts: each is the contract of a function that does nothing.
 
+ghost use Rattle.mesh_model.specs.Fields.EdgeSplits.{EdgeChildrenAreSplit};
 ghost use Rattle.mesh_model.specs.Fields.FaceSplits.{FaceChildrenAreSplit};
 ghost use Rattle.mesh_model.specs.Fields.Octants.{ChildrenAreSplit};
 
@@ -12,4 +13,10 @@ pub fn children_hold_views()
 /// inside coarser leaves.
 pub fn face_children_hold_views()
     ensures { FaceChildrenAreSplit }
+{}
+
+/// The same of its edges along an axis and the views of a field on edges, where the parts of its boundary that were kept
+/// held views and the others lie inside coarser leaves.
+pub fn edge_children_hold_views()
+    ensures { EdgeChildrenAreSplit }
 {}

@@ -3,8 +3,8 @@
 ghost use Rattle.amr_num.specs.Numbers.{Within, at};
 ghost use Rattle.std.specs.Prelude.{◌≡◌, ℕ, ◌^◌, ◌<◌, ◌≤◌, IfOk, length};
 
-use crate::laws::{children_hold_views, face_children_hold_views};
-use crate::{Outer, inner_faces, split_cells, split_faces};
+use crate::laws::{children_hold_views, edge_children_hold_views, face_children_hold_views};
+use crate::{Outer, inner_faces, split_cells, split_edges, split_faces};
 use amr_num::OutOfMemory;
 use std::alloc::Global;
 
@@ -107,4 +107,40 @@ fn a_cell_is_split_between_its_sides(rt: HostRuntime) {
     assert_eq!(rt; cz[1 + 12 + 72], 0);
     assert_eq!(rt; cz[1 + 6 + 108], 1);
     face_children_hold_views();
+}
+
+#[test]
+fn edges_are_halves_and_means_between_them(rt: HostRuntime) {
+    // A row on x of the edges along x has 6 places, and one of those along y or z 7. A plane of those along x or z has 7
+    // rows, and one of those along y 6.
+    let mut px = sevens(rt.alloc(), 294).expect(&rt, "memory");
+    let py = sevens(rt.alloc(), 294).expect(&rt, "memory");
+    let pz = sevens(rt.alloc(), 294).expect(&rt, "memory");
+    let mut cx = sevens(rt.alloc(), 294).expect(&rt, "memory");
+    let mut cy = sevens(rt.alloc(), 294).expect(&rt, "memory");
+    let mut cz = sevens(rt.alloc(), 294).expect(&rt, "memory");
+    // The parent's edges along x at the four corners of its cell (0, 0, 0), of which the child 0 has the halves.
+    set(&mut px, 1 + 6 + 42, 5);
+    set(&mut px, 1 + 12 + 42, 0);
+    set(&mut px, 1 + 6 + 84, -4);
+    set(&mut px, 1 + 12 + 84, -7);
+    // The part of the child's boundary low on y and on z, in the direction 1, is kept.
+    set(&mut cx, 1 + 6 + 42, 9);
+    split_edges::<4, 1>(0, 2, &px, &py, &pz, &mut cx, &mut cy, &mut cz);
+    assert_eq!(rt; cx[1 + 6 + 42], 9);
+    assert_eq!(rt; cx[2 + 6 + 42], 7);
+    assert_eq!(rt; cx[1 + 18 + 42], 0);
+    assert_eq!(rt; cx[1 + 6 + 126], -2);
+    assert_eq!(rt; cx[1 + 18 + 126], -3);
+    assert_eq!(rt; cx[2 + 18 + 126], -4);
+    // Between two and between four of these, rounded down.
+    assert_eq!(rt; cx[1 + 12 + 42], 4);
+    assert_eq!(rt; cx[1 + 6 + 84], 3);
+    assert_eq!(rt; cx[1 + 12 + 126], -3);
+    assert_eq!(rt; cx[1 + 12 + 84], 1);
+    assert_eq!(rt; cx[6 + 42], 7);
+    assert_eq!(rt; cy[1 + 7 + 42], 4);
+    assert_eq!(rt; cy[1 + 14 + 42], 3);
+    assert_eq!(rt; cz[1 + 7 + 98], 3);
+    edge_children_hold_views();
 }

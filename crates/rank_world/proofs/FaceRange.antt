@@ -31,7 +31,6 @@ use Rattle.block_store.specs.declared.above.CountedFaces.{CountedFaces}
 use Rattle.block_tree.specs.SideFaces.{face_name, side_position}
 use Rattle.block_tree.proofs.SideFaces.{calm_face, calm_side, split_face}
 use Rattle.rank_world.specs.FaceRange.{CountLeafFaces, HasAxis, axis_above, face_above_at, told_face}
-use Rattle.rank_world.specs.declared.faces.FaceAbove.{FaceAbove}
 use Rattle.rank_world.proofs.FaceBlocks.{leaf_face_seen}
 
 at_low : (l h : Bool) → ((l || not true) && (h || not false)) ≡ l
@@ -132,7 +131,7 @@ counts_leaf g valid b inside leaf whole Z low high counts i j k hi hj hk =
     ∙ sym (leaf_or_split g _ (leaf_face_seen g valid Z b leaf i j k hi hj hk) _ refl)
 
 -- what is told of what is found
-told_if : (f : Above → FaceAbove) (t u : Bool) (found : Above) → option_map f (if t then (if u then Some found else None) else None) ≡ (if t && u then Some (f found) else None)
+pub told_if : {A : Type 0} (f : Above → A) (t u : Bool) (found : Above) → option_map f (if t then (if u then Some found else None) else None) ≡ (if t && u then Some (f found) else None)
 told_if f true true found = refl
 told_if f true false found = refl
 told_if f false u found = refl

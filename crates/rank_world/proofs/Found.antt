@@ -1,17 +1,19 @@
 -- Numbers out of range that are found, and the places at which they are.
-use Rattle.std.proofs.Common.{◌≡◌, ℕ, zero, suc, ◌<◌, ◌≤◌, ◌^◌, ℤ, Option, Some, None, refl, sym, subst, ◌∙◌, arith, inl, inr}
+use Rattle.std.proofs.Common.{◌≡◌, ℕ, zero, suc, ◌<◌, ◌≤◌, ◌^◌, Bool, true, false, ℤ, Option, Some, None, is_some, refl, sym, subst, ◌∙◌, arith, inl, inr}
+use Rattle.std.specs.Prelude.{if◌then◌else◌}
 use Rattle.std.specs.Option.{option_or}
 use Rattle.std.proofs.lemmas.Bool.{cases_Bool, cases_lt}
 use Rattle.amr_num.specs.declared.Axis.TheVariants.{X, Y, Z}
 use Rattle.amr_num.specs.declared.BlockAt.{BlockAt}
 use Rattle.mesh_model.specs.declared.geometry.Shape.{Shape}
-use Rattle.mesh_model.specs.Fields.Firsts.{first_below}
+use Rattle.mesh_model.specs.Fields.Firsts.{first_below, first_in_places}
 use Rattle.mesh_model.specs.Fields.RangeWalk.{is_above}
 use Rattle.mesh_model.specs.Geometry.Blocks.{InDomain}
 use Rattle.mesh_model.specs.Geometry.Limits.{IsShape}
-use Rattle.mesh_model.specs.Geometry.Places.{longer_on}
-use Rattle.block_store.specs.Above.{above_at, counted_face_at, first_in_block, first_in_faces, is_counted_face}
+use Rattle.mesh_model.specs.Geometry.Places.{longer_across, longer_on}
+use Rattle.block_store.specs.Above.{above_at, first_in_block, first_in_edges, first_in_faces, is_counted_edge, is_counted_face}
 use Rattle.block_store.specs.declared.above.Above.{Above}
+use Rattle.block_store.specs.declared.above.CountedEdges.{CountedEdges}
 use Rattle.block_store.specs.declared.above.CountedFaces.{CountedFaces}
 use Rattle.block_tree.proofs.Next.{has_key}
 
@@ -40,23 +42,37 @@ inside_of cells n a is =
     let place = told_place cells x.0 y.0 z.0 a x.2 in
     (subst (λ m. m < n) (sym place.0) x.1, subst (λ m. m < n) (sym place.1) y.1, subst (λ m. m < n) (sym place.2) z.1)
 
--- the same of a face
-face_place : (n : ℕ) (f : CountedFaces) (numbers : ℕ → ℕ → ℕ → ℤ) (i j k : ℕ) (a : Above) → counted_face_at n f numbers i j k ≡ Some a → (a.i ≡ i) × (a.j ≡ j) × (a.k ≡ k)
-face_place n f numbers i j k a is = elim (cases_Bool (is_counted_face n f i j k)) [
-  | inl counts ↦ told_place numbers i j k a (sym (rw counts refl) ∙ is)
-  | inr none ↦ (let nothing : counted_face_at n f numbers i j k ≡ None = rw none refl in absurd cc)
-]
+-- the same where only some count
+pub counted_inside : (x y z : ℕ) (counts : ℕ → ℕ → ℕ → Bool) (numbers : ℕ → ℕ → ℕ → ℤ) (a : Above) → first_in_places x y z (λ i j k. if counts i j k then above_at numbers i j k else None) ≡ Some a →
+    (a.i < x) × (a.j < y) × (a.k < z)
+counted_inside x y z counts numbers a is =
+    let at = λ (i j k : ℕ). if counts i j k then above_at numbers i j k else None in
+    let on_z = was_found z (λ k. first_below y (λ j. first_below x (λ i. at i j k))) a is in
+    let on_y = was_found y (λ j. first_below x (λ i. at i j on_z.0)) a on_z.2 in
+    let on_x = was_found x (λ i. at i on_y.0 on_z.0) a on_y.2 in
+    let place = counted_place on_x.0 on_y.0 on_z.0 on_x.2 in
+    (subst (λ m. m < x) (sym place.0) on_x.1, subst (λ m. m < y) (sym place.1) on_y.1, subst (λ m. m < z) (sym place.2) on_z.1)
+  where
+    counted_place : (i j k : ℕ) → (if counts i j k then above_at numbers i j k else None) ≡ Some a → (a.i ≡ i) × (a.j ≡ j) × (a.k ≡ k)
+    counted_place i j k is = elim (cases_Bool (counts i j k)) [
+      | inl there ↦ told_place numbers i j k a (sym (rw there refl) ∙ is)
+      | inr none ↦ (let nothing : (if counts i j k then above_at numbers i j k else None) ≡ None = rw none refl in absurd cc)
+    ]
 
 pub face_inside : (numbers : ℕ → ℕ → ℕ → ℤ) (n : ℕ) (f : CountedFaces) (a : Above) → first_in_faces numbers n f ≡ Some a → (a.i < longer_on f.axis X n) × (a.j < longer_on f.axis Y n) × (a.k < longer_on f.axis Z n)
-face_inside numbers n f a is =
-    let x = longer_on f.axis X n in
-    let y = longer_on f.axis Y n in
-    let z = longer_on f.axis Z n in
-    let on_z = was_found z (λ k. first_below y (λ j. first_below x (λ i. counted_face_at n f numbers i j k))) a is in
-    let on_y = was_found y (λ j. first_below x (λ i. counted_face_at n f numbers i j on_z.0)) a on_z.2 in
-    let on_x = was_found x (λ i. counted_face_at n f numbers i on_y.0 on_z.0) a on_y.2 in
-    let place = face_place n f numbers on_x.0 on_y.0 on_z.0 a on_x.2 in
-    (subst (λ m. m < x) (sym place.0) on_x.1, subst (λ m. m < y) (sym place.1) on_y.1, subst (λ m. m < z) (sym place.2) on_z.1)
+face_inside numbers n f = counted_inside (longer_on f.axis X n) (longer_on f.axis Y n) (longer_on f.axis Z n) (is_counted_face n f) numbers
+
+pub edge_inside : (numbers : ℕ → ℕ → ℕ → ℤ) (n : ℕ) (e : CountedEdges) (a : Above) → first_in_edges numbers n e ≡ Some a → (a.i < longer_across e.axis X n) × (a.j < longer_across e.axis Y n) × (a.k < longer_across e.axis Z n)
+edge_inside numbers n e = counted_inside (longer_across e.axis X n) (longer_across e.axis Y n) (longer_across e.axis Z n) (is_counted_edge n e) numbers
+
+-- the first of some that are looked at one after the other
+pub first_of : {A : Type 0} (p q : Option A) → is_some p ≡ true → p ≡ option_or p q
+first_of None q is = absurd cc
+first_of (Some x) q is = refl
+
+pub rest_of : {A : Type 0} (p q : Option A) → is_some p ≡ false → q ≡ option_or p q
+rest_of None q is = refl
+rest_of (Some x) q is = absurd cc
 
 -- a block's coordinates are small
 small_power : (l : ℕ) → l ≤ 10 → 2 ^ l ≤ 1024

@@ -5,6 +5,7 @@ pub mod FaceContents
 pub mod Puts
 pub mod FaceBlocks
 pub mod FaceRange
+pub mod EdgeRange
 pub mod Found
 pub mod Exchanged
 pub mod EdgeContents

@@ -8,4 +8,5 @@ pub mod Puts
 pub mod RankLends
 pub mod WorldLends
 pub mod FaceRange
+pub mod EdgeRange
 pub mod Exchanging

@@ -16,10 +16,11 @@ ghost use Rattle.rank_world.specs.FaceRange as above;
 ghost use Rattle.rank_world.specs.FaceRange.{CountLeafFaces, HasAxes, HasAxis, HasField, HasWorkField, told_face};
 ghost use Rattle.rank_world.specs.Holding as holding;
 ghost use Rattle.rank_world.specs.Holding.{IsLeafNode};
-ghost use Rattle.std.specs.Prelude.{◌≡◌, ℕ, ◌+◌, ◌*◌, ◌<◌, ◌≤◌, ℤ};
+ghost use Rattle.std.specs.Prelude.{◌≡◌, ℕ, ◌<◌, ◌≤◌, ℤ};
 
+use crate::naming::numbers_of;
 use crate::world::World;
-use amr_num::{Axis, BlockAt, CellAt, FaceAt};
+use amr_num::{Axis, BlockAt, FaceAt};
 use block_store::{Above, CountedFaces, faces_above};
 use block_tree::{Tree, finer_beside};
 use mesh_model::{Shape, Var, canonical_face};
@@ -45,16 +46,6 @@ pub fn face_var(work: bool, axis: Axis) -> Var
     }
 }
 
-/// The coordinate on an axis of a block's face.
-fn place_on(n: u32, block: u32, i: u32) -> u32
-    requires size { n ≤ 8 }
-    requires block { block < 8192 }
-    requires place { i ≤ n }
-    ensures { result ≡ n * block + i }
-{
-    n * block + i
-}
-
 /// The canonical name of a block's face at a place.
 fn name_of(shape: &Shape, block: BlockAt, axis: Axis, found: Above) -> FaceAt
     requires shape { IsShape shape.now }
@@ -63,12 +54,7 @@ fn name_of(shape: &Shape, block: BlockAt, axis: Axis, found: Above) -> FaceAt
     requires place { (found.i ≤ shape.now.n) × (found.j ≤ shape.now.n) × (found.k ≤ shape.now.n) }
     ensures { result ≡ face_of axis (canonical_on shape.now axis (in_block shape.now.n block found.i found.j found.k)) }
 {
-    let numbers = CellAt {
-        level: block.level,
-        x: place_on(shape.n, block.x, found.i),
-        y: place_on(shape.n, block.y, found.j),
-        z: place_on(shape.n, block.z, found.k),
-    };
+    let numbers = numbers_of(shape, block, found);
     canonical_face(shape, axis, numbers)
 }
 

@@ -3,12 +3,15 @@
 //! There is one rank, and it holds all nodes.
 #![tactic(auto)]
 
+mod edges;
 mod faces;
 mod known;
+mod naming;
 mod rank;
 mod taking;
 mod world;
 
+pub use edges::{EdgeAbove, first_edge_above};
 pub use faces::{
     FaceAbove, face_told, face_var, first_face_above, first_work_face_above, leaf_faces,
 };

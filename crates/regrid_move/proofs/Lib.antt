@@ -1,6 +1,7 @@
+pub mod Walks
 pub mod Excess
 pub mod Moved
-pub mod FaceMoved
+pub mod AxisMoved
 pub mod Regridded
 pub mod Steps
 pub mod Stops

@@ -1,13 +1,14 @@
 -- Leaves of the new grid: they are near old ones, and hold the regridded mesh.
-use Rattle.std.proofs.Common.{◌≡◌, ℕ, ◌<◌, Bool, true, false, ℤ, pos, refl, sym, ap, ap₂, subst, ◌∙◌, arith, inl, inr}
+use Rattle.std.proofs.Common.{◌≡◌, ℕ, ◌<◌, Bool, true, false, List, ℤ, pos, refl, sym, ap, ap₂, subst, ◌∙◌, arith, inl, inr}
 use Rattle.std.specs.Prelude.{if◌then◌else◌, ◌&&◌}
 use Rattle.amr_num.specs.declared.Axis.{Axis}
 use Rattle.amr_num.specs.declared.BlockAt.{BlockAt}
+use Rattle.amr_num.specs.declared.EdgeAt.{EdgeAt}
 use Rattle.amr_num.specs.declared.FaceAt.{FaceAt}
 use Rattle.mesh_model.specs.Geometry.Blocks.{parent_block}
 use Rattle.mesh_model.specs.Tree.Order.{IsIn}
-use Rattle.mesh_model.specs.Fields.ArrayPlaces.{HoldsFaces, HoldsViews}
-use Rattle.mesh_model.specs.Fields.FinePlaces.{faces_in}
+use Rattle.mesh_model.specs.Fields.ArrayPlaces.{HoldsEdges, HoldsFaces, HoldsViews}
+use Rattle.mesh_model.specs.Fields.FinePlaces.{edges_in, faces_in}
 use Rattle.mesh_model.specs.Geometry.Canonical.{canonical_on}
 use Rattle.mesh_model.specs.Geometry.Coordinates.{face_of}
 use Rattle.mesh_model.specs.Tree.Kinds.{Grid, is_leaf, is_leaf_block, is_split}
@@ -16,21 +17,26 @@ use Rattle.mesh_model.specs.Geometry.Places.{in_block}
 use Rattle.mesh_model.specs.Tree.Regrown.{new_grid, regrown}
 use Rattle.mesh_model.specs.Fields.Regrid.{regrid}
 use Rattle.mesh_model.specs.Tree.ValidGrid.{Valid}
-use Rattle.mesh_model.specs.Fields.Views.{cell_view, face_view}
+use Rattle.mesh_model.specs.Fields.Views.{cell_view, edge_view, face_view}
 use Rattle.mesh_model.specs.Fields.Ranks.{WorldState}
 use Rattle.mesh_model.proofs.FieldLemmas.BlockOctants.{block_of_cell}
 use Rattle.mesh_model.proofs.FieldLemmas.CellKinds.{kinds_of_tiles, wide_of}
 use Rattle.mesh_model.proofs.FieldLemmas.CellSums.{view_leaf}
+use Rattle.mesh_model.proofs.FieldLemmas.EdgeSums.{edge_view_sum}
 use Rattle.mesh_model.proofs.FieldLemmas.LeafFaces.{face_adds, view_is}
 use Rattle.mesh_model.proofs.TreeLemmas.Closure.{parent_of_child}
 use Rattle.mesh_model.proofs.TreeLemmas.Regrown.{new_source}
 use Rattle.mesh_model.proofs.TreeLemmas.Tiling.{leaf_says}
-use Rattle.mesh_model.proofs.FieldLemmas.ValidGrid.{leaf_whole}
+use Rattle.mesh_model.proofs.FieldLemmas.ValidGrid.{deep_edge, leaf_whole, tree}
 use Rattle.block_tree.specs.Growing.{MayRegrow}
+use Rattle.block_tree.specs.Directions.{edge_name}
 use Rattle.block_tree.specs.Numbered.{block_at}
-use Rattle.rank_world.specs.Holding.{LeavesHold, LeavesHoldFaces, face_array, numbers_of}
+use Rattle.rank_world.specs.Holding.{LeavesHold, numbers_of}
 use Rattle.rank_world.proofs.FaceBlocks.{leaf_face_seen}
-use Rattle.regrid_move.specs.FaceMoves.{LeafFacesMoved}
+use Rattle.regrid_move.specs.AxisMoves.{FieldOf, HoldsAxis, LeafAxesMoved, LeavesHoldAxes, array_of}
+use Rattle.regrid_move.specs.declared.kinds.Staggered.{Staggered}
+use Rattle.regrid_move.specs.declared.kinds.Staggered.TheVariants.{Edges, Faces}
+use Rattle.leaf_split.proofs.EdgeViews as edges
 use Rattle.regrid_move.specs.Near.{AreNear, IsNear, LeavesMoved}
 
 -- each leaf of the new grid is near
@@ -73,10 +79,10 @@ new_leaves now new m v old_is new_is valid moved node leaf =
     let here = subst (λ h. HoldsViews h (m.cells v) b xs) old_is (moved node leaf) in
     subst (λ h. HoldsViews h ((regrid m).cells v) b xs) (sym new_is) (moved_holds m v b xs valid (subst (λ h. is_leaf_block h b ≡ true) new_is leaf.leaf) here)
 
--- ---- faces
+-- ---- faces and edges
 
 -- a leaf of the new grid whose faces hold the old views has the new mesh's on them
-pub moved_holds_faces : (m : Mesh) (a : Axis) (b : BlockAt) (numbers : ℕ → ℕ → ℕ → ℤ) → Valid m.grid → Valid (new_grid (marked m)) → is_leaf_block (new_grid (marked m)) b ≡ true →
+moved_holds_faces : (m : Mesh) (a : Axis) (b : BlockAt) (numbers : ℕ → ℕ → ℕ → ℤ) → Valid m.grid → Valid (new_grid (marked m)) → is_leaf_block (new_grid (marked m)) b ≡ true →
     HoldsFaces m.grid m.faces a b numbers → HoldsFaces (new_grid (marked m)) (regrid m).faces a b numbers
 moved_holds_faces m a b numbers before valid leaf moved = record {
   at = λ i j k hi hj hk.
@@ -91,10 +97,37 @@ moved_holds_faces m a b numbers before valid leaf moved = record {
       (face_of a (canonical_on s a (in_block s.n b i j k))) seen);
 }
 
-pub new_face_leaves : (now new : WorldState) (m : Mesh) → now.told.grid ≡ m.grid → new.told.grid ≡ new_grid (marked m) → Valid m.grid → Valid (new_grid (marked m)) → LeafFacesMoved now new m.faces → LeavesHoldFaces new (regrid m).faces
-new_face_leaves now new m old_is new_is before valid moved node leaf a =
+-- and one whose edges do
+moved_holds_edges : (m : Mesh) (a : Axis) (b : BlockAt) (numbers : ℕ → ℕ → ℕ → ℤ) → Valid m.grid → Valid (new_grid (marked m)) → is_leaf_block (new_grid (marked m)) b ≡ true →
+    HoldsEdges m.grid m.edges a b numbers → HoldsEdges (new_grid (marked m)) (regrid m).edges a b numbers
+moved_holds_edges m a b numbers before valid leaf moved = record {
+  at = λ i j k hi hj hk.
+      let g = new_grid (marked m) in
+      let s = m.grid.shape in
+      let old = λ (e : EdgeAt). edge_view m.grid m.edges e in
+      let inside = valid.tiles.inside b (leaf_says g b leaf) in
+      moved.at i j k hi hj hk
+      ∙ sym (edges.view_is g valid (regrid m).edges old
+      (λ e canonical is. ap (λ t. if t then edge_view m.grid m.edges e else pos 0) (ap₂ (λ p q. p && q) canonical is))
+      (λ e split. edge_view_sum m.grid (tree m.grid before) (wide_of s before.shape) m.edges e (deep_edge m.grid before e))
+      (edge_name s a b i j k) (edges.edge_canonical s b valid.shape.cells inside a i j k hi hj hk) (edges.either_of_leaf g valid a b leaf i j k hi hj hk));
+}
+
+-- the mesh's numbers on faces, or on edges
+abbrev pub numbers_on : (k : Staggered) → Mesh → FieldOf k
+numbers_on Faces m = m.faces
+numbers_on Edges m = m.edges
+
+moved_holds_axis : (k : Staggered) (m : Mesh) (a : Axis) (b : BlockAt) (xs : List ℤ) → Valid m.grid → Valid (new_grid (marked m)) → is_leaf_block (new_grid (marked m)) b ≡ true →
+    HoldsAxis k m.grid (numbers_on k m) a b xs → HoldsAxis k (new_grid (marked m)) (numbers_on k (regrid m)) a b xs
+moved_holds_axis Faces m a b xs before valid leaf moved = moved_holds_faces m a b (faces_in m.grid a xs) before valid leaf moved
+moved_holds_axis Edges m a b xs before valid leaf moved = moved_holds_edges m a b (edges_in m.grid a xs) before valid leaf moved
+
+pub new_axes : (k : Staggered) (now new : WorldState) (m : Mesh) → now.told.grid ≡ m.grid → new.told.grid ≡ new_grid (marked m) → Valid m.grid → Valid (new_grid (marked m)) →
+    LeafAxesMoved k now new (numbers_on k m) → LeavesHoldAxes k new (numbers_on k (regrid m))
+new_axes k now new m old_is new_is before valid moved node leaf a =
     let b = block_at new.told.grid node in
-    let xs = face_array new a node in
-    let here = subst (λ h. HoldsFaces h m.faces a b (faces_in h a xs)) old_is (moved node leaf a) in
-    subst (λ h. HoldsFaces h (regrid m).faces a b (faces_in h a xs)) (sym new_is)
-    (moved_holds_faces m a b (faces_in m.grid a xs) before valid (subst (λ h. is_leaf_block h b ≡ true) new_is leaf.leaf) here)
+    let xs = array_of k new a node in
+    let here = subst (λ h. HoldsAxis k h (numbers_on k m) a b xs) old_is (moved node leaf a) in
+    subst (λ h. HoldsAxis k h (numbers_on k (regrid m)) a b xs) (sym new_is)
+    (moved_holds_axis k m a b xs before valid (subst (λ h. is_leaf_block h b ≡ true) new_is leaf.leaf) here)

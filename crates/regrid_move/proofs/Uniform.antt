@@ -30,10 +30,7 @@ use Rattle.block_tree.proofs.Members.{at_in}
 use Rattle.rank_world.specs.Holding.{IsOfValidMesh, LeavesHoldFaces, face_array}
 use Rattle.rank_world.proofs.FaceBlocks.{leaf_face_seen}
 use Rattle.rank_world.proofs.Meshes.{of_some_mesh}
-
-none_split : (g : Grid) → ((b : BlockAt) → is_split_block g b ≡ false) → (o : Option CellAt) → holds (is_split g) o ≡ false
-none_split g whole None = refl
-none_split g whole (Some c) = whole _
+use Rattle.leaf_split.proofs.UniformEdges.{none_split, none_split_block}
 
 or_zero : (t : Bool) → Within (2 ^ 40) (if t then pos 13 else pos 0)
 or_zero true = omega arith
@@ -76,20 +73,8 @@ module _ (w : WorldState) (valid : Valid w.told.grid) (order : Sorted w.told.gri
     marks = record { refine = plain.valid.marks.refine; derefine = plain.valid.marks.derefine };
   }
 
-  -- no block is split, since there is one node
   whole : (b : BlockAt) → is_split_block w.told.grid b ≡ false
-  whole b = refuted _ (λ s.
-      let g = w.told.grid in
-      let l = split_says g b s in
-      let here = at_in b (nodes g.leaves) (in_node g valid b l.0 l.1 l.3) in
-      let leaf = at_in l.0 (nodes g.leaves) (in_node g valid l.0 l.0 l.1 (lies_refl l.0)) in
-      let first = here.1 in
-      let last = leaf.1 in
-      let number : here.0 ≡ leaf.0 = omega (arith, first, last, one) in
-      let same_block : b ≡ l.0 = sym here.2 ∙ ap (block_in (nodes g.leaves)) number ∙ leaf.2 in
-      let level = ap (λ (d : BlockAt). d.level) same_block in
-      let less = l.2 in
-      omega (arith, level, less))
+  whole = none_split_block w.told.grid valid one
 
   leaf_face : (f : FaceAt) → Seen w.told.grid f → is_leaf_face w.told.grid f ≡ true
   unfolding Either is_split_face

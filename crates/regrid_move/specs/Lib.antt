@@ -1,4 +1,4 @@
 pub mod Near
 pub mod Regrids
 pub mod Tried
-pub mod FaceMoves
+pub mod AxisMoves

@@ -16,7 +16,7 @@ use Rattle.mesh_model.specs.declared.fields.spot.RangeStop.{RangeStop}
 use Rattle.rank_world.specs.Holding.{IsOfMesh}
 use Rattle.refine_marks.specs.declared.plan.Plan.{Plan}
 use Rattle.refine_marks.specs.Planned.{merged_by, refined_by}
-use Rattle.regrid_move.specs.FaceMoves.{faces_stop}
+use Rattle.regrid_move.specs.AxisMoves.{edges_stop, faces_stop}
 use Rattle.regrid_move.specs.Near.{all_stop}
 use Rattle.regrid_move.specs.declared.regridding.RegridStop.{RegridStop}
 use Rattle.regrid_move.specs.declared.regridding.RegridStop.TheVariants.{Blocks, Range, OutOfMemory}
@@ -26,11 +26,12 @@ abbrev pub IsPlanOf : Mesh → Plan → Type 0
 IsPlanOf m plan = new_grid (marked m) ≡ regrown m.grid (refined_by m.grid plan) (merged_by m.grid plan)
 
 -- the first number out of range of those that are moved: by variables, in each by the new leaves in order, in each by its cells, x fastest,
--- then y, then z; then of the face variable, by the new leaves in order, in each by its leaf faces
+-- then y, then z; then of the face variable, by the new leaves in order, in each by its leaf faces; then of the edge variable by its leaf edges
 abbrev pub first_moved_excess : Mesh → Option RangeStop
 first_moved_excess m =
     let g = new_grid (marked m) in
-    option_or (all_stop m.grid g m.cells (length m.names.cells)) (faces_stop m.grid g m.faces (length (nodes g.leaves)))
+    option_or (all_stop m.grid g m.cells (length m.names.cells))
+    (option_or (faces_stop m.grid g m.faces (length (nodes g.leaves))) (edges_stop m.grid g m.edges (length (nodes g.leaves))))
 
 -- a world, and a plan, of a valid mesh
 pub record AreOfMesh (w : WorldState) (plan : Plan) (m : Mesh) : Type 0 where

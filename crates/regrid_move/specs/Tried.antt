@@ -10,9 +10,8 @@ pub record MayTry (n g : ℕ) (w : WorldState) : Type 0 where
   pub cells : (w.told.counts.faces ≡ 0) × (w.told.counts.edges ≡ 0)
   pub range : LeavesInRange w
 
--- one with a face variable alone
-pub record MayTryFaces (n g : ℕ) (w : WorldState) : Type 0 where
+-- one with a face or an edge variable alone
+pub record MayTryAxes (n g : ℕ) (w : WorldState) : Type 0 where
   pub fit : IsFit n g w
   pub cells : w.told.counts.cells ≡ 0
-  pub edges : w.told.counts.edges ≡ 0
   pub mesh : IsOfValidMesh w

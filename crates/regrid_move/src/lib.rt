@@ -4,7 +4,8 @@
 //! end. So a refusal leaves the first as it was.
 #![tactic(auto)]
 
-mod faces;
+mod axes;
+mod kinds;
 mod leaves;
 mod moving;
 mod ranging;

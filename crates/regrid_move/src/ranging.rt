@@ -1,20 +1,21 @@
-//! The faces of new leaves, and the first of them whose number is out of range.
+//! The faces or edges of new leaves, and the first of them whose number is out of range.
 
-ghost use Rattle.amr_num.specs.declared.FaceAt.{FaceAt};
 ghost use Rattle.block_tree.specs.Numbered.{IsNode, block_at};
 ghost use Rattle.mesh_model.specs.Fields.Ranks.{IsFit};
 ghost use Rattle.mesh_model.specs.Tree.Order.{nodes};
-ghost use Rattle.rank_world.specs.Holding.{IsLeafNode, LeavesHoldFaces};
-ghost use Rattle.regrid_move.specs.FaceMoves.{FacesMoved, LeafFacesMoved, MayMoveAllFaces, MayMoveFaces, OnlyFaces, OnlyFacesOf, block_face_stop, face_range, faces_stop, node_face_stop};
+ghost use Rattle.rank_world.specs.Holding.{IsLeafNode, OnlyAxes, OnlyAxesOf};
+ghost use Rattle.regrid_move.specs.AxisMoves as moves;
+ghost use Rattle.regrid_move.specs.AxisMoves.{AxesMoved, FieldOf, HasAxes, LeafAxesMoved, LeavesHoldAxes, MayMoveAllAxes, MayMoveAxes, axes_stop, block_axes_stop, count_of, declared_stop, edge_range, face_range, first_stop, node_axes_stop};
 ghost use Rattle.regrid_move.specs.Near.{IsNear};
-ghost use Rattle.std.specs.Prelude.{◌≡◌, ℤ, None, length};
+ghost use Rattle.std.specs.Prelude.{◌≡◌, ◌<◌, None, length};
 
-use crate::faces::move_faces;
+use crate::axes::move_axes;
+use crate::kinds::Staggered;
 use mesh_model::{Group, RangeStop, Spot};
-use rank_world::{FaceAbove, World, first_face_above};
+use rank_world::{EdgeAbove, FaceAbove, World, first_edge_above, first_face_above};
 
 /// What is told of a face that is out of range.
-fn stop_of(found: FaceAbove) -> RangeStop
+fn face_stop(found: FaceAbove) -> RangeStop
     ensures { result ≡ face_range found }
 {
     RangeStop {
@@ -24,66 +25,132 @@ fn stop_of(found: FaceAbove) -> RangeStop
     }
 }
 
-/// Writes the old views of a new leaf's faces into it, and tells the first leaf face of it that is out of range.
-fn move_faces_checked<const N: usize, const G: usize>(
-    old: &World<N, G>,
-    new: &mut World<N, G>,
-    node: u32,
-) -> Option<RangeStop>
-    requires may { MayMoveFaces N G old.now new.old node }
-    requires near { IsNear old.now.told.grid (block_at new.old.told.grid node) }
-    ensures only { OnlyFacesOf new.old new.new node }
-    ensures fit { IsFit N G new.new }
-    ensures views { (field : FaceAt → ℤ) → LeavesHoldFaces old.now field → FacesMoved old.now new.new field node }
-    ensures stop { (field : FaceAt → ℤ) → LeavesHoldFaces old.now field
-        → result ≡ block_face_stop old.now.told.grid new.new.told.grid field (block_at new.new.told.grid node) }
+/// What is told of an edge that is out of range.
+fn edge_stop(found: EdgeAbove) -> RangeStop
+    ensures { result ≡ edge_range found }
 {
-    move_faces(old, new, node);
-    match first_face_above(new, node) {
-        None => None,
-        Some(found) => Some(stop_of(found)),
+    RangeStop {
+        var: Group::Edge,
+        spot: Spot::Edge(found.edge),
+        value: i128::from(found.value),
     }
 }
 
-/// The same of a node, where it is a leaf.
-fn move_node_faces<const N: usize, const G: usize>(
-    old: &World<N, G>,
-    new: &mut World<N, G>,
+/// The first leaf face or leaf edge of a leaf that is out of range.
+fn leaf_stop<const N: usize, const G: usize>(
+    world: &World<N, G>,
+    kind: Staggered,
     node: u32,
 ) -> Option<RangeStop>
-    requires may { MayMoveAllFaces N G old.now new.old }
-    requires node { IsNode new.old.told.grid node }
-    ensures only { OnlyFacesOf new.old new.new node }
+    requires fit { IsFit N G world.now }
+    requires declared { 0 < count_of kind world.now.told.counts }
+    requires leaf { IsLeafNode world.now.told.grid node }
+    ensures { (field : FieldOf kind) → HasAxes kind world.now field node → result ≡ first_stop kind world.now.told.grid field (block_at world.now.told.grid node) }
+{
+    match kind {
+        Staggered::Faces => match first_face_above(world, node) {
+            None => None,
+            Some(found) => Some(face_stop(found)),
+        },
+        Staggered::Edges => match first_edge_above(world, node) {
+            None => None,
+            Some(found) => Some(edge_stop(found)),
+        },
+    }
+}
+
+/// Writes the old views of a new leaf's faces or edges into it, and tells the first leaf one that is out of range.
+fn move_axes_checked<const N: usize, const G: usize>(
+    old: &World<N, G>,
+    new: &mut World<N, G>,
+    kind: Staggered,
+    node: u32,
+) -> Option<RangeStop>
+    requires may { MayMoveAxes N G kind old.now new.old node }
+    requires near { IsNear old.now.told.grid (block_at new.old.told.grid node) }
+    ensures only { OnlyAxesOf (moves.var_of kind) new.old new.new node }
     ensures fit { IsFit N G new.new }
-    ensures views { (field : FaceAt → ℤ) → LeavesHoldFaces old.now field → IsLeafNode new.new.told.grid node → FacesMoved old.now new.new field node }
-    ensures stop { (field : FaceAt → ℤ) → LeavesHoldFaces old.now field
-        → result ≡ node_face_stop old.now.told.grid new.new.told.grid field node }
+    ensures views { (field : FieldOf kind) → LeavesHoldAxes kind old.now field → AxesMoved kind old.now new.new field node }
+    ensures stop { (field : FieldOf kind) → LeavesHoldAxes kind old.now field
+        → result ≡ block_axes_stop kind old.now.told.grid new.new.told.grid field (block_at new.new.told.grid node) }
+{
+    move_axes(old, new, kind, node);
+    leaf_stop(new, kind, node)
+}
+
+/// The same of a node, where it is a leaf.
+fn move_node_axes<const N: usize, const G: usize>(
+    old: &World<N, G>,
+    new: &mut World<N, G>,
+    kind: Staggered,
+    node: u32,
+) -> Option<RangeStop>
+    requires may { MayMoveAllAxes N G old.now new.old }
+    requires declared { 0 < count_of kind old.now.told.counts }
+    requires node { IsNode new.old.told.grid node }
+    ensures only { OnlyAxesOf (moves.var_of kind) new.old new.new node }
+    ensures fit { IsFit N G new.new }
+    ensures views { (field : FieldOf kind) → LeavesHoldAxes kind old.now field → IsLeafNode new.new.told.grid node → AxesMoved kind old.now new.new field node }
+    ensures stop { (field : FieldOf kind) → LeavesHoldAxes kind old.now field
+        → result ≡ node_axes_stop kind old.now.told.grid new.new.told.grid field node }
 {
     if new.tree().is_leaf(node) {
-        move_faces_checked(old, new, node)
+        move_axes_checked(old, new, kind, node)
     } else {
         None
     }
 }
 
-/// Writes the old views of the face variable into each leaf of the new tree, up to the first leaf face that is out of
-/// range.
-pub(crate) fn move_face_variable<const N: usize, const G: usize>(
+/// Writes the old views of the face variable or of the edge variable into each leaf of the new tree, up to the first leaf
+/// face or leaf edge that is out of range.
+fn move_axes_variable<const N: usize, const G: usize>(
     old: &World<N, G>,
     new: &mut World<N, G>,
+    kind: Staggered,
 ) -> Option<RangeStop>
-    requires { MayMoveAllFaces N G old.now new.old }
-    ensures only { OnlyFaces new.old new.new }
+    requires may { MayMoveAllAxes N G old.now new.old }
+    requires declared { 0 < count_of kind old.now.told.counts }
+    ensures only { OnlyAxes (moves.var_of kind) new.old new.new }
     ensures fit { IsFit N G new.new }
-    ensures views { result ≡ None → (field : FaceAt → ℤ) → LeavesHoldFaces old.now field → LeafFacesMoved old.now new.new field }
-    ensures stop { (field : FaceAt → ℤ) → LeavesHoldFaces old.now field
-        → result ≡ faces_stop old.now.told.grid new.new.told.grid field (length (nodes new.new.told.grid.leaves)) }
+    ensures views { result ≡ None → (field : FieldOf kind) → LeavesHoldAxes kind old.now field → LeafAxesMoved kind old.now new.new field }
+    ensures stop { (field : FieldOf kind) → LeavesHoldAxes kind old.now field
+        → result ≡ axes_stop kind old.now.told.grid new.new.told.grid field (length (nodes new.new.told.grid.leaves)) }
 {
     for node in 0..new.tree().len() {
-        let stop = move_node_faces(old, new, node);
+        let stop = move_node_axes(old, new, kind, node);
         if stop.is_some() {
             return stop;
         }
     }
     None
+}
+
+/// How many variables of a kind a world has.
+fn declared<const N: usize, const G: usize>(world: &World<N, G>, kind: Staggered) -> u32
+    ensures { result ≡ count_of kind world.now.told.counts }
+{
+    match kind {
+        Staggered::Faces => world.layout().faces,
+        Staggered::Edges => world.layout().edges,
+    }
+}
+
+/// The same where the variable is declared.
+pub(crate) fn move_declared<const N: usize, const G: usize>(
+    old: &World<N, G>,
+    new: &mut World<N, G>,
+    kind: Staggered,
+) -> Option<RangeStop>
+    requires { MayMoveAllAxes N G old.now new.old }
+    ensures only { OnlyAxes (moves.var_of kind) new.old new.new }
+    ensures fit { IsFit N G new.new }
+    ensures views { result ≡ None → 0 < count_of kind old.now.told.counts → (field : FieldOf kind) → LeavesHoldAxes kind old.now field
+        → LeafAxesMoved kind old.now new.new field }
+    ensures stop { (field : FieldOf kind) → (0 < count_of kind old.now.told.counts → LeavesHoldAxes kind old.now field)
+        → result ≡ declared_stop kind old.now.told.grid new.new.told.grid field old.now.told.counts }
+{
+    if declared(old, kind) == 0 {
+        return None;
+    }
+    move_axes_variable(old, new, kind)
 }

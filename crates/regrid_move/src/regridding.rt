@@ -1,20 +1,23 @@
 //! A world on the tree after refining and merging.
 
 ghost use Rattle.amr_num.specs.declared.CellAt.{CellAt};
+ghost use Rattle.amr_num.specs.declared.EdgeAt.{EdgeAt};
 ghost use Rattle.amr_num.specs.declared.FaceAt.{FaceAt};
 ghost use Rattle.block_tree.specs.Growing.{MayRegrow};
 ghost use Rattle.mesh_model.specs.Fields.Plain.{Mesh};
 ghost use Rattle.mesh_model.specs.Fields.Ranks.{IsFit};
-ghost use Rattle.rank_world.specs.Holding.{IsOfValidMesh, LeavesHold, LeavesHoldFaces, LeavesInRange};
+ghost use Rattle.rank_world.specs.Holding.{IsOfValidMesh, LeavesHold, LeavesHoldEdges, LeavesHoldFaces, LeavesInRange};
 ghost use Rattle.refine_marks.specs.Flags.{IsOnePerNode};
 ghost use Rattle.refine_marks.specs.Planned.{merged_by, refined_by};
-ghost use Rattle.regrid_move.specs.FaceMoves.{LeafFacesMoved, values_stop};
+ghost use Rattle.regrid_move.specs.AxisMoves.{LeafAxesMoved, values_stop};
+ghost use Rattle.regrid_move.specs.declared.kinds.Staggered.TheVariants.{Edges, Faces};
 ghost use Rattle.regrid_move.specs.Near.{LeavesMoved, MayMoveAll};
 ghost use Rattle.regrid_move.specs.Regrids.{AreOfMesh, IsRegridStop, IsRegridded, of_growth};
-ghost use Rattle.std.specs.Prelude.{◌≡◌, ◌<◌, ℕ, ℤ, None, IfErr, OnErr, OnOk};
+ghost use Rattle.std.specs.Prelude.{◌≡◌, ◌<◌, ℕ, ℤ, None, false, IfErr, OnErr, OnOk};
 
+use crate::kinds::Staggered;
 use crate::moving::move_all;
-use crate::ranging::move_face_variable;
+use crate::ranging::move_declared;
 use amr_num::OutOfMemory;
 use block_tree::GrowStop;
 use mesh_model::RangeStop;
@@ -44,7 +47,7 @@ fn no_tree(stop: GrowStop) -> RegridStop
 }
 
 /// Writes the old views of all variables into each leaf of the new tree, up to the first that is out of range: cells
-/// first, then faces where a face variable is declared.
+/// first, then faces and edges where a variable of these is declared.
 fn move_values<const N: usize, const G: usize>(
     old: &World<N, G>,
     new: &mut World<N, G>,
@@ -56,16 +59,23 @@ fn move_values<const N: usize, const G: usize>(
     ensures cells { result ≡ None → (v : ℕ) (content : CellAt → ℤ) → v < old.now.told.counts.cells → LeavesHold old.now v content
         → LeavesMoved old.now new.new v content }
     ensures faces { result ≡ None → 0 < old.now.told.counts.faces → (field : FaceAt → ℤ) → LeavesHoldFaces old.now field
-        → LeafFacesMoved old.now new.new field }
-    ensures stop { (contents : ℕ → CellAt → ℤ) (field : FaceAt → ℤ) → ((v : ℕ) → v < old.now.told.counts.cells → LeavesHold old.now v (contents v))
-        → (0 < old.now.told.counts.faces → LeavesHoldFaces old.now field)
-        → result ≡ values_stop old.now.told.grid new.new.told.grid contents field old.now.told.counts }
+        → LeafAxesMoved Faces old.now new.new field }
+    ensures edges { result ≡ None → 0 < old.now.told.counts.edges → (field : EdgeAt → ℤ) → LeavesHoldEdges false old.now field
+        → LeafAxesMoved Edges old.now new.new field }
+    ensures stop { (contents : ℕ → CellAt → ℤ) (on_faces : FaceAt → ℤ) (on_edges : EdgeAt → ℤ)
+        → ((v : ℕ) → v < old.now.told.counts.cells → LeavesHold old.now v (contents v))
+        → (0 < old.now.told.counts.faces → LeavesHoldFaces old.now on_faces) → (0 < old.now.told.counts.edges → LeavesHoldEdges false old.now on_edges)
+        → result ≡ values_stop old.now.told.grid new.new.told.grid contents on_faces on_edges old.now.told.counts }
 {
-    let stop = move_all(old, new);
-    if stop.is_some() || old.layout().faces == 0 {
-        return stop;
+    let cells = move_all(old, new);
+    if cells.is_some() {
+        return cells;
     }
-    move_face_variable(old, new)
+    let faces = move_declared(old, new, Staggered::Faces);
+    if faces.is_some() {
+        return faces;
+    }
+    move_declared(old, new, Staggered::Edges)
 }
 
 /// Puts a world on the new tree in place of one on the old. A refusal leaves the old one.
@@ -75,7 +85,6 @@ pub fn regrid<const N: usize, const G: usize>(
     plan: &Plan,
 ) -> Result<(), RegridStop>
     requires fit { IsFit N G world.old }
-    requires edges { world.old.told.counts.edges ≡ 0 }
     requires mesh { IsOfValidMesh world.old }
     requires range { LeavesInRange world.old }
     requires refine { IsOnePerNode world.old.told.grid plan.now.refine.items }

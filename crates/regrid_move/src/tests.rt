@@ -6,10 +6,11 @@ ghost use Rattle.mesh_model.specs.Fields.Ranks.{IsFit, IsSized};
 ghost use Rattle.mesh_model.specs.Geometry.Limits.{IsShape};
 ghost use Rattle.refine_marks.specs.Flags.{IsOnePerNode};
 ghost use Rattle.refine_marks.specs.Planned.{merged_by, refined_by};
-ghost use Rattle.regrid_move.specs.Tried.{MayTry, MayTryFaces};
+ghost use Rattle.regrid_move.specs.Tried.{MayTry, MayTryAxes};
 ghost use Rattle.rank_world.specs.Puts.{IsPut};
 ghost use Rattle.std.specs.Prelude.{◌≡◌, ◌<◌, ◌≤◌, ◌^◌, ◌⊎◌, IfSome};
 
+use crate::kinds::Staggered;
 use crate::splitting::put_axis;
 use crate::{RegridStop, regrid};
 use amr_num::{Axis, CellAt, SideKind, fits};
@@ -249,8 +250,8 @@ fn too_many_blocks_are_counted(rt: HostRuntime) {
 }
 
 /// The world of one root, whose faces all have the number 13.
-fn uniform(alloc: Global) -> Option<World<4, 1>>
-    ensures { IfSome result (λ world. MayTryFaces 4 1 world) }
+fn uniform_faces(alloc: Global) -> Option<World<4, 1>>
+    ensures { IfSome result (λ world. MayTryAxes 4 1 world) }
 {
     let layout = Layout {
         cells: 0,
@@ -265,25 +266,48 @@ fn uniform(alloc: Global) -> Option<World<4, 1>>
         return None;
     }
     let faces = [13i64; 252];
-    put_axis(&mut world, Axis::X, 0, &faces);
-    put_axis(&mut world, Axis::Y, 0, &faces);
-    put_axis(&mut world, Axis::Z, 0, &faces);
+    put_axis(&mut world, Staggered::Faces, Axis::X, 0, &faces);
+    put_axis(&mut world, Staggered::Faces, Axis::Y, 0, &faces);
+    put_axis(&mut world, Staggered::Faces, Axis::Z, 0, &faces);
     Some(world)
 }
 
-/// Regrids a world with a face variable by the plan for its tree.
-fn regridded_faces<const N: usize, const G: usize>(
+/// The world of one root, whose edges all have the number 7.
+fn uniform_edges(alloc: Global) -> Option<World<4, 1>>
+    ensures { IfSome result (λ world. MayTryAxes 4 1 world) }
+{
+    let layout = Layout {
+        cells: 0,
+        faces: 0,
+        edges: 1,
+    };
+    let mut world = match World::on_tree(alloc, one_root(alloc)?, layout) {
+        Ok(world) => world,
+        Err(_) => return None,
+    };
+    if world.tree().len() != 1 {
+        return None;
+    }
+    let edges = [7i64; 294];
+    put_axis(&mut world, Staggered::Edges, Axis::X, 0, &edges);
+    put_axis(&mut world, Staggered::Edges, Axis::Y, 0, &edges);
+    put_axis(&mut world, Staggered::Edges, Axis::Z, 0, &edges);
+    Some(world)
+}
+
+/// Regrids a world with a face or an edge variable alone by the plan for its tree.
+fn regridded_axes<const N: usize, const G: usize>(
     alloc: Global,
     world: &mut World<N, G>,
 ) -> Option<Result<(), RegridStop>>
-    requires { MayTryFaces N G world.old }
+    requires { MayTryAxes N G world.old }
     ensures { IsFit N G world.new }
 {
     let plan = plan_of(alloc, world.tree())?;
     Some(regrid(alloc, world, &plan))
 }
 
-/// The number at a place of the faces of a node normal to an axis.
+/// The number at a place of a node's faces normal to an axis.
 fn face<const N: usize, const G: usize>(
     world: &World<N, G>,
     axis: Axis,
@@ -294,6 +318,22 @@ fn face<const N: usize, const G: usize>(
 {
     if node < world.tree().len() && world.layout().faces > 0 {
         world.values(Var::Face(axis), node).get(place).copied()
+    } else {
+        None
+    }
+}
+
+/// The number at a place of a node's edges along an axis.
+fn edge<const N: usize, const G: usize>(
+    world: &World<N, G>,
+    axis: Axis,
+    node: u32,
+    place: usize,
+) -> Option<i64>
+    requires { IsFit N G world.now }
+{
+    if node < world.tree().len() && world.layout().edges > 0 {
+        world.values(Var::Edge(axis), node).get(place).copied()
     } else {
         None
     }
@@ -316,10 +356,34 @@ const QUARTERS: [(Axis, u32, usize, i64); 9] = [
 
 #[test]
 fn faces_of_one_block_are_quartered(rt: HostRuntime) {
-    let mut mesh = uniform(rt.alloc()).expect(&rt, "memory");
-    assert_eq!(rt; regridded_faces(rt.alloc(), &mut mesh), Some(Ok(())));
+    let mut mesh = uniform_faces(rt.alloc()).expect(&rt, "memory");
+    assert_eq!(rt; regridded_axes(rt.alloc(), &mut mesh), Some(Ok(())));
     assert_eq!(rt; mesh.tree().len(), 9);
     for (axis, node, place, part) in QUARTERS {
         assert_eq!(rt; face(&mesh, axis, node, place), Some(part));
+    }
+}
+
+/// Edges of the children: an axis, a node, a place, and the number. The halves of 7 are 4 and 3, and an edge between parents'
+/// edges has the mean of equal halves. Along x the place of (i, j, k) is (1 + i) + 6 (1 + j) + 42 (1 + k), along y
+/// (1 + i) + 7 (1 + j) + 42 (1 + k), and along z (1 + i) + 7 (1 + j) + 49 (1 + k).
+const HALVES: [(Axis, u32, usize, i64); 8] = [
+    (Axis::X, 1, 49, 4),
+    (Axis::X, 1, 50, 3),
+    (Axis::X, 1, 56, 3),
+    (Axis::X, 8, 238, 3),
+    (Axis::Y, 1, 50, 4),
+    (Axis::Y, 3, 57, 3),
+    (Axis::Z, 5, 57, 4),
+    (Axis::Z, 5, 107, 3),
+];
+
+#[test]
+fn edges_of_one_block_are_halved(rt: HostRuntime) {
+    let mut mesh = uniform_edges(rt.alloc()).expect(&rt, "memory");
+    assert_eq!(rt; regridded_axes(rt.alloc(), &mut mesh), Some(Ok(())));
+    assert_eq!(rt; mesh.tree().len(), 9);
+    for (axis, node, place, part) in HALVES {
+        assert_eq!(rt; edge(&mesh, axis, node, place), Some(part));
     }
 }

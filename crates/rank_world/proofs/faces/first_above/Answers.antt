@@ -1,18 +1,10 @@
-use Rattle.std.proofs.Common.{◌≡◌, ◌∙◌, Option, Some, None, is_some, false, true, sym, ap}
+use Rattle.std.proofs.Common.{◌∙◌, sym, ap}
 use Rattle.std.specs.Option.{option_or}
 use Rattle.amr_num.specs.declared.Axis.TheVariants.{X, Y, Z}
 use Rattle.block_tree.specs.Numbered.{block_at}
 use Rattle.rank_world.specs.FaceRange.{axis_above}
-use Rattle.rank_world.specs.declared.faces.FaceAbove.{FaceAbove}
+use Rattle.rank_world.proofs.Found.{first_of, rest_of}
 use Rattle.rank_world.proofs.faces.first_above.Goals as goal
-
-first_of : (p q : Option FaceAbove) → is_some p ≡ true → p ≡ option_or p q
-first_of None q is = absurd cc
-first_of (Some x) q is = λ i. Some x
-
-rest_of : (p q : Option FaceAbove) → is_some p ≡ false → q ≡ option_or p q
-rest_of None q is = λ i. q
-rest_of (Some x) q is = absurd cc
 
 pub returns-then-is_some : goal.returns-then-is_some
 returns-then-is_some g c field has =

@@ -1,8 +1,7 @@
-use Rattle.std.proofs.Common.{◌≡◌, ◌<◌, ◌∙◌, ap, ap₂, refl, subst, sym, ℕ, zero, suc, Bool, List, pos, Option, None, Some, length, arith}
+use Rattle.std.proofs.Common.{◌≡◌, ◌<◌, ◌∙◌, ap, ap₂, refl, subst, sym, ℕ, zero, suc, Bool, List, Option, None, Some, length, arith}
 use Rattle.std.specs.Prelude.{if◌then◌else◌, nat_lt}
 use Rattle.std.specs.Option.{option_or}
 use Rattle.std.proofs.lemmas.Bool.{lt-ltb}
-use Rattle.amr_num.specs.declared.FaceAt.{FaceAt}
 use Rattle.mesh_model.specs.Fields.Arrays.{Counts}
 use Rattle.mesh_model.specs.Tree.Order.{nodes}
 use Rattle.mesh_model.specs.Tree.Kinds.{Grid}
@@ -20,11 +19,12 @@ use Rattle.refine_marks.specs.declared.plan.Plan.{Plan}
 use Rattle.mesh_model.specs.declared.fields.spot.RangeStop.{RangeStop}
 use Rattle.mesh_model.specs.Fields.Valid.{ValidMesh}
 use Rattle.rank_world.specs.Holding.{IsOfMesh}
-use Rattle.regrid_move.specs.FaceMoves.{faces_stop, values_stop}
+use Rattle.regrid_move.specs.AxisMoves.{edges_stop, faces_stop, values_stop}
+use Rattle.regrid_move.specs.declared.kinds.Staggered.TheVariants.{Edges, Faces}
 use Rattle.regrid_move.specs.Near.{AreNear, all_stop}
 use Rattle.regrid_move.specs.Regrids.{AreOfMesh, IsRegridStop, first_moved_excess, of_growth}
-use Rattle.regrid_move.proofs.Excess.{excess_is, no_faces_stop}
-use Rattle.regrid_move.proofs.Regridded.{near_after, new_face_leaves, new_leaves}
+use Rattle.regrid_move.proofs.Excess.{excess_is, no_edges_stop, no_faces_stop}
+use Rattle.regrid_move.proofs.Regridded.{near_after, new_axes, new_leaves}
 use Rattle.regrid_move.proofs.regridding.regrid.Goals as goal
 
 after_same : (g h : Grid) (a b c d : List Bool) → g ≡ h → a ≡ b → c ≡ d → grid_after g a c ≡ grid_after h b d
@@ -62,20 +62,21 @@ move_values-requires g c =
       ),
     )
 
--- faces that are not declared are not walked
-declared_faces : (n count : ℕ) (m : Mesh) (g : Grid) → (n ≡ 0 → (f : FaceAt) → m.faces f ≡ pos 0) → (if nat_lt 0 n then faces_stop m.grid g m.faces count else None) ≡ faces_stop m.grid g m.faces count
-declared_faces zero count m g none = sym (no_faces_stop m.grid g m.faces count (none refl))
-declared_faces (suc n) count m g none = ap (λ (t : Bool). if t then faces_stop m.grid g m.faces count else None) (lt-ltb 0 (suc n) (omega arith))
+-- what is not declared is not walked
+if_declared : (n : ℕ) (p : Option RangeStop) → (n ≡ 0 → p ≡ None) → (if nat_lt 0 n then p else None) ≡ p
+if_declared zero p none = sym (none refl)
+if_declared (suc n) p none = ap (λ (t : Bool). if t then p else None) (lt-ltb 0 (suc n) (omega arith))
 
 -- the first number that is moved and out of range is that of the mesh
 first_of : (now : WorldState) (g : Grid) (m : Mesh) (r : Option RangeStop) → ValidMesh m → IsOfMesh now m → g ≡ new_grid (marked m) →
-    values_stop now.told.grid g m.cells m.faces now.told.counts ≡ r → first_moved_excess m ≡ r
+    values_stop now.told.grid g m.cells m.faces m.edges now.told.counts ≡ r → first_moved_excess m ≡ r
 first_of now g m r valid of new is =
     let h = new_grid (marked m) in
-    let walked = λ (n : ℕ). option_or (all_stop m.grid h m.cells n) (if nat_lt 0 now.told.counts.faces then faces_stop m.grid h m.faces (length (nodes h.leaves)) else None) in
-    ap (option_or (all_stop m.grid h m.cells (length m.names.cells))) (sym (declared_faces now.told.counts.faces (length (nodes h.leaves)) m h (λ zero. valid.declared.faces (of.faces.0 zero))))
-    ∙ ap walked (sym of.cells)
-    ∙ ap₂ (λ u v. values_stop u v m.cells m.faces now.told.counts) (sym of.grid) (sym new) ∙ is
+    let count = length (nodes h.leaves) in
+    let faces = if_declared now.told.counts.faces (faces_stop m.grid h m.faces count) (λ zero. no_faces_stop m count (valid.declared.faces (of.faces.0 zero))) in
+    let edges = if_declared now.told.counts.edges (edges_stop m.grid h m.edges count) (λ zero. no_edges_stop m count (valid.declared.edges (of.edges.0 zero))) in
+    ap₂ (λ u v. option_or (all_stop m.grid h m.cells u) v) (sym of.cells) (ap₂ (λ u v. option_or u v) (sym faces) (sym edges))
+    ∙ ap₂ (λ u v. values_stop u v m.cells m.faces m.edges now.told.counts) (sym of.grid) (sym new) ∙ is
 
 pub returns-in-Some-clause-stop : goal.returns-in-Some-clause-stop
 returns-in-Some-clause-stop g c m of =
@@ -88,8 +89,8 @@ returns-in-Some-clause-stop g c m of =
     let new_is : new.told.grid ≡ new_grid (marked m) = ap (λ (t : Told). t.grid) c.move_values.ensures.told ∙ moved_is in
     let valid : Valid (new_grid (marked m)) = subst Valid tree_is (known c.in-Ok.tree).valid in (
       subst FewNodes after c.in-Ok.ensures.few,
-      excess_is m of.valid (of.world.edges.0 c.requires.edges) valid
-          ∙ first_of now new.told.grid m (Some c.in-Some.stop) of.valid of.world new_is (sym (c.move_values.ensures.stop m.cells m.faces of.world.contents of.world.on_faces) ∙ c.in-Some.is),
+      excess_is m of.valid valid
+          ∙ first_of now new.told.grid m (Some c.in-Some.stop) of.valid of.world new_is (sym (c.move_values.ensures.stop m.cells m.faces m.edges of.world.contents of.world.on_faces of.world.on_edges) ∙ c.in-Some.is),
     )
 
 pub returns-in-None-clause-mesh : goal.returns-in-None-clause-mesh
@@ -105,23 +106,26 @@ returns-in-None-clause-mesh g c m of =
     let counts = ap (λ (t : Told). t.counts) told ∙ c.in-Ok-on_tree.ensures.counts_are ∙ c.layout.ensures in
     let cells : new.told.counts.cells ≡ now.told.counts.cells = ap (λ (k : Counts). k.cells) counts in
     let faces : new.told.counts.faces ≡ now.told.counts.faces = ap (λ (k : Counts). k.faces) counts in
+    let edges : new.told.counts.edges ≡ now.told.counts.edges = ap (λ (k : Counts). k.edges) counts in
     let none : c.move_values.result ≡ None = c.in-None.is in
     record {
       few = subst FewNodes (same ∙ along now c.args.plan.now m of) c.in-Ok.ensures.few;
       in_range =
-          excess_is m of.valid (of.world.edges.0 c.requires.edges) valid
-          ∙ first_of now new.told.grid m None of.valid of.world new_is (sym (c.move_values.ensures.stop m.cells m.faces of.world.contents of.world.on_faces) ∙ none);
+          excess_is m of.valid valid
+          ∙ first_of now new.told.grid m None of.valid of.world new_is (sym (c.move_values.ensures.stop m.cells m.faces m.edges of.world.contents of.world.on_faces of.world.on_edges) ∙ none);
       world = record {
         grid = new_is;
         cells = cells ∙ of.world.cells;
         faces = (λ zero. of.world.faces.0 (sym faces ∙ zero), λ none. faces ∙ of.world.faces.1 none);
-        edges = (λ zero. of.world.edges.0 (sym (ap (λ (k : Counts). k.edges) counts) ∙ zero), λ none. ap (λ (k : Counts). k.edges) counts ∙ of.world.edges.1 none);
+        edges = (λ zero. of.world.edges.0 (sym edges ∙ zero), λ none. edges ∙ of.world.edges.1 none);
         contents = λ v below.
             let here : v < now.told.counts.cells = subst (λ k. v < k) cells below in
             new_leaves now new m v of.world.grid new_is valid (c.move_values.ensures.cells none v (m.cells v) here (of.world.contents v here));
         on_faces = λ some.
             let declared : 0 < now.told.counts.faces = subst (λ k. 0 < k) faces some in
-            new_face_leaves now new m of.world.grid new_is of.valid.grid valid (c.move_values.ensures.faces none declared m.faces (of.world.on_faces declared));
-        on_edges = λ some. let zero : new.told.counts.edges ≡ 0 = ap (λ (k : Counts). k.edges) counts ∙ c.requires.edges in absurd (omega (arith, some, zero));
+            new_axes Faces now new m of.world.grid new_is of.valid.grid valid (c.move_values.ensures.faces none declared m.faces (of.world.on_faces declared));
+        on_edges = λ some.
+            let declared : 0 < now.told.counts.edges = subst (λ k. 0 < k) edges some in
+            new_axes Edges now new m of.world.grid new_is of.valid.grid valid (c.move_values.ensures.edges none declared m.edges (of.world.on_edges declared));
       };
     }

@@ -20,17 +20,14 @@ regrid-requires g c =
       (
         c.requires.fit,
         (
-          c.requires.cells.1,
+          mesh,
           (
-            mesh,
+            c.requires.range,
             (
-              c.requires.range,
+              subst (λ (h : Grid). IsOnePerNode h plan.refine.items) at c.in_ok-plan.ensures.refine,
               (
-                subst (λ (h : Grid). IsOnePerNode h plan.refine.items) at c.in_ok-plan.ensures.refine,
-                (
-                  subst (λ (h : Grid). IsOnePerNode h plan.merge.items) at c.in_ok-plan.ensures.merge,
-                  subst (λ (h : Grid). MayRegrow h (refined_by h plan) (merged_by h plan)) at c.in_ok-plan.ensures.may,
-                ),
+                subst (λ (h : Grid). IsOnePerNode h plan.merge.items) at c.in_ok-plan.ensures.merge,
+                subst (λ (h : Grid). MayRegrow h (refined_by h plan) (merged_by h plan)) at c.in_ok-plan.ensures.may,
               ),
             ),
           ),

@@ -33,17 +33,14 @@ regrid-requires g c =
       (
         self.fit,
         (
-          self.laid_out.edges,
+          record { mesh = m; valid = valid; world = of_now self.names self.world self.outs.items self.marks self.laid_out valid },
           (
-            record { mesh = m; valid = valid; world = of_now self.names self.world self.outs.items self.marks self.laid_out valid },
+            leaves_in_range self.world m (of_now self.names self.world self.outs.items self.marks self.laid_out valid) valid,
             (
-              leaves_in_range self.world m (of_now self.names self.world self.outs.items self.marks self.laid_out valid) valid,
+              subst (λ h. IsOnePerNode h plan.refine.items) c.tree.ensures c.in-Ok.ensures.refine_flags,
               (
-                subst (λ h. IsOnePerNode h plan.refine.items) c.tree.ensures c.in-Ok.ensures.refine_flags,
-                (
-                  subst (λ h. IsOnePerNode h plan.merge.items) c.tree.ensures c.in-Ok.ensures.merge_flags,
-                  subst (λ h. MayRegrow h (refined_by h plan) (merged_by h plan)) c.tree.ensures c.in-Ok.ensures.may_regrow,
-                ),
+                subst (λ h. IsOnePerNode h plan.merge.items) c.tree.ensures c.in-Ok.ensures.merge_flags,
+                subst (λ h. MayRegrow h (refined_by h plan) (merged_by h plan)) c.tree.ensures c.in-Ok.ensures.may_regrow,
               ),
             ),
           ),
