@@ -1,20 +1,24 @@
 -- The strips of an axis.
-use Rattle.std.proofs.Common.{◌≡◌, ℕ, zero, suc, ◌+◌, ◌-◌, ◌*◌, ◌/◌, ◌%◌, ◌<◌, ◌≤◌, Bool, true, false, min, Option, Some, None, pos, negsuc, nat_lt, refl, sym, ap, ◌∙◌, arith, inl, inr, mod-eq_of_lt, pow_mono, ◌^◌, if◌then◌else◌}
-use Rattle.std.proofs.Math.Nat.{add-mul-mod_self_left, mul-le-mul_left}
+use Rattle.std.proofs.Common.{◌≡◌, ℕ, zero, suc, ◌+◌, ◌-◌, ◌*◌, ◌/◌, ◌%◌, ◌<◌, ◌≤◌, Bool, true, false, min, Option, Some, None, pos, negsuc, nat_lt, refl, sym, ap, ◌∙◌, arith, inl, inr, mod-eq_of_lt, eq-eqb, ne_eqb, subst, ℤ, pow_mono, ◌^◌, if◌then◌else◌}
+use Rattle.std.proofs.Math.Nat.{add-mul-mod_self_left, div-add-mod, mod_self, mul-le-mul_left}
 use Rattle.std.proofs.lemmas.Nat.{mul-le}
 use Rattle.std.proofs.lemmas.Int.{ints}
 use Rattle.std.proofs.lemmas.Bool.{cases_lt, lt-ltb, le-ltb}
 use Rattle.amr_num.specs.Numbers.{floor_mod}
-use Rattle.mesh_model.specs.Fields.ArrayPlaces.{IsSize}
+use Rattle.mesh_model.specs.declared.fields.values.Var.{Var}
+use Rattle.mesh_model.specs.declared.fields.values.Var.TheVariants.{Cell, CellWork, Edge, EdgeWork, Face, FaceWork}
+use Rattle.mesh_model.specs.Fields.FinePlaces.{half_extents}
+use Rattle.mesh_model.specs.Fields.ArrayPlaces.{IsSize, extents_of}
 use Rattle.amr_num.specs.declared.Axis.TheVariants.{X, Y, Z}
 use Rattle.amr_num.specs.declared.BlockAt.{BlockAt}
 use Rattle.mesh_model.specs.declared.geometry.Shape.{Shape}
-use Rattle.mesh_model.specs.Geometry.Coordinates.{above, below, is_periodic, roots}
+use Rattle.mesh_model.specs.Geometry.Coordinates.{above, below, is_periodic, roots, wrapped}
 use Rattle.mesh_model.specs.Geometry.Outside.{brought_in}
 use Rattle.mesh_model.specs.Geometry.Places.{guard_index}
 use Rattle.guard_fill.specs.declared.strips.Patch.{Patch}
 use Rattle.guard_fill.specs.declared.strips.Strip.{Strip}
-use Rattle.guard_fill.specs.Strips.{AreWithin, IsPatch, IsStrip, IsWithin}
+use Rattle.guard_fill.specs.Guarding.{AreReaches, at_positions}
+use Rattle.guard_fill.specs.Strips.{AllReach, AreWithin, IsPatch, IsReach, IsStrip, IsWithin, Reaches, begin_of, cell_at, many_of, one_more}
 
 pub guards_least : {n g : ℕ} → IsSize n g → (0 < g) × (g ≤ 4)
 guards_least size = elim size.guards [ inl e ↦ (omega arith, omega arith) | inr (inl e) ↦ (omega arith, omega arith) | inr (inr e) ↦ (omega arith, omega arith) ]
@@ -259,3 +263,159 @@ patch_within n g s b d p size h is = record {
   y = strip_within n g (is_periodic s Y) (roots s Y * 2 ^ b.level) b.y (d / 3 % 3) p.y size (omega arith) is.y;
   z = strip_within n g (is_periodic s Z) (roots s Z * 2 ^ b.level) b.z (d / 9) p.z size (omega arith) is.z;
 }
+
+-- ---- positions
+
+-- a block's cells lie on its axis
+in_axis : (blocks n c u : ℕ) → c < blocks → u < n → n * c + u < blocks * n
+in_axis blocks n c u hc hu = inside_block blocks n c hc c u hc hu
+
+-- a position of the axis
+own_position : (periodic : Bool) (e q : ℕ) → q ≤ e → brought_in periodic e e (pos q) ≡ wrapped periodic e q
+unfolding wrapped
+own_position false e q h = omega arith
+own_position true e q h = elim (cases_lt q e) [
+  | inl less ↦ mod-eq_of_lt less ∙ (let test = ne_eqb q e (λ is. absurd (omega arith)) in rw test refl)
+  | inr end ↦ (let is : q ≡ e = omega arith in let test = eq-eqb q e is in ap (λ m. m % e) is ∙ mod_self e ∙ (rw test refl))
+]
+
+-- a position below the last is where a cell is
+same_place : (periodic : Bool) (e : ℕ) (i : ℤ) (m : ℕ) → 0 < e → m < e → ((q : ℕ) → i ≡ pos q → q < e) → brought_in periodic e (e - 1) i ≡ m → brought_in periodic e e i ≡ wrapped periodic e m
+unfolding wrapped
+same_place true e i m some less below is = is ∙ (let test = ne_eqb m e (λ is. absurd (omega arith)) in rw test refl)
+same_place false e (pos q) m some less below is = (let low = below q refl in omega arith)
+same_place false e (negsuc q) m some less below is = is
+
+-- one position further than a cell
+next_place : (periodic : Bool) (e q m : ℕ) → 0 < e → m < e → brought_in periodic e (e - 1) (pos q) ≡ m → brought_in periodic e e (pos (q + 1)) ≡ wrapped periodic e (m + 1)
+unfolding wrapped
+next_place false e q m some less is = omega arith
+next_place true e q m some less is =
+    let whole : q + 1 ≡ m + 1 + e * (q / e) = (let parts = div-add-mod q e in omega (arith, parts, is)) in
+    ap (λ k. k % e) whole ∙ add-mul-mod_self_left (m + 1) e (q / e) ∙ own_position true e (m + 1) (omega arith)
+
+pub reach_before : (n g : ℕ) (positions periodic : Bool) (blocks b : ℕ) (s : Strip) → IsSize n g → b < blocks → IsStrip n g periodic blocks b 0 s → IsReach n g positions periodic blocks b 0 s
+reach_before n g false periodic blocks b s size h is = is
+reach_before n g true periodic blocks b s size h is =
+    let few = guards_least size in
+    let to = is.to in
+    let many = is.many in
+    record {
+      to = is.to;
+      many = is.many;
+      beside = is.beside;
+      cells = λ t l. (let less = is.cells t l in omega arith);
+      stand = λ t l.
+          let inside = in_axis blocks n s.block (cell_at s t) is.beside.there (is.cells t l) in
+          let line = row blocks n b h in
+          let turned : n * blocks ≡ blocks * n = grind arith in
+          same_place periodic (blocks * n) (guard_index n g b (s.to + t)) (n * s.block + cell_at s t) (omega arith) inside (λ q at. omega (arith, ints, at)) (is.stand t l);
+    }
+
+pub reach_along : (n g : ℕ) (positions periodic : Bool) (blocks b own : ℕ) → b < blocks → own ≡ one_more positions n → IsReach n g positions periodic blocks b 1 (record { to = g; many = own; block = b; first = 0; step = 1 })
+reach_along n g false periodic blocks b own h is = subst (λ m. IsReach n g false periodic blocks b 1 (record { to = g; many = m; block = b; first = 0; step = 1 })) (sym is) (along_same n g periodic blocks b h)
+reach_along n g true periodic blocks b own h is = record {
+  to = refl;
+  many = is;
+  beside = record { there = h; which = inl (omega arith, omega arith) };
+  cells = λ t l. omega arith;
+  stand = λ t l.
+      let line = row blocks n b h in
+      let turned : n * blocks ≡ blocks * n = grind arith in
+      let at : guard_index n g b (g + t) ≡ pos (n * b + (0 + 1 * t)) = omega (arith, ints) in
+      ap (brought_in periodic (blocks * n) (blocks * n)) at ∙ own_position periodic (blocks * n) (n * b + (0 + 1 * t)) (omega arith);
+}
+
+-- so many places further behind a block, and so many further in the block from which they have their numbers
+pub reach_behind : (n g : ℕ) (positions periodic : Bool) (blocks b own block first step : ℕ) → IsSize n g → b < blocks → own ≡ one_more positions n →
+    IsStrip n g periodic blocks b 2 (record { to = g + n; many = g; block = block; first = first; step = step }) →
+    IsReach n g positions periodic blocks b 2 (record { to = g + own; many = g; block = block; first = first + (own - n); step = step })
+reach_behind n g false periodic blocks b own block first step size h is strip =
+    let none : first + (own - n) ≡ first = omega arith in
+    subst (λ f. IsReach n g false periodic blocks b 2 (record { to = g + own; many = g; block = block; first = f; step = step })) (sym none)
+    (subst (λ m. IsReach n g false periodic blocks b 2 (record { to = g + m; many = g; block = block; first = first; step = step })) (sym is) strip)
+reach_behind n g true periodic blocks b own block first step size h is strip = record {
+  to = (let far = is in omega arith);
+  many = refl;
+  beside = strip.beside;
+  cells = λ t l. (let less = strip.cells t l in let far = is in omega arith);
+  stand = λ t l.
+      let far = is in
+      let inside = in_axis blocks n block (first + step * t) strip.beside.there (strip.cells t l) in
+      let next = next_row n b in
+      let at : guard_index n g b (g + n + t) ≡ pos (n * suc b + t) = omega (arith, ints) in
+      let after : guard_index n g b (g + own + t) ≡ pos (n * suc b + t + 1) = omega (arith, ints) in
+      let stands : brought_in periodic (blocks * n) (blocks * n - 1) (pos (n * suc b + t)) ≡ n * block + (first + step * t) = ap (brought_in periodic (blocks * n) (blocks * n - 1)) (sym at) ∙ strip.stand t l in
+      let one : n * block + (first + step * t) + 1 ≡ n * block + (first + (own - n) + step * t) = omega arith in
+      ap (brought_in periodic (blocks * n) (blocks * n)) after
+      ∙ next_place periodic (blocks * n) (n * suc b + t) (n * block + (first + step * t)) (omega arith) inside stands
+      ∙ ap (wrapped periodic (blocks * n)) one;
+}
+
+-- the places of a direction lie within an array, and those from which they have their numbers behind its first guards
+strip_reaches : (n g : ℕ) (positions periodic : Bool) (blocks b d : ℕ) (s : Strip) (many : ℕ) → IsSize n g → d < 3 → many ≡ one_more positions n + 2 * g → IsReach n g positions periodic blocks b d s → Reaches many g s
+strip_reaches n g positions periodic blocks b d s many size h all is = record {
+  some = (let most = own_least n positions in let l = cells_least size in let f = guards_least size in let m = is.many in let k = many_least (one_more positions n) g d (omega arith) (omega arith) in omega arith);
+  to = (let m = is.many in let t = is.to in let k = begins_within (one_more positions n) g d h in omega arith);
+  from = λ t l. (let c = is.cells t l in omega arith);
+}
+  where
+    own_least : (n : ℕ) (positions : Bool) → n ≤ one_more positions n
+    own_least n true = omega arith
+    own_least n false = omega arith
+
+    many_least : (m g d : ℕ) → 0 < m → 0 < g → 0 < many_of m g d
+    many_least m g zero hm hg = hg
+    many_least m g (suc zero) hm hg = hm
+    many_least m g (suc (suc d)) hm hg = hg
+
+    begins_within : (m g d : ℕ) → d < 3 → begin_of m g d + many_of m g d ≤ m + 2 * g
+    begins_within m g zero h = omega arith
+    begins_within m g (suc zero) h = omega arith
+    begins_within m g (suc (suc d)) h = omega arith
+
+-- an array has two guards more than a block has places of its own
+pub record Widths (n g : ℕ) (var : Var) : Type 0 where
+  pub x : (extents_of n g var).x ≡ one_more (at_positions var X) n + 2 * g
+  pub y : (extents_of n g var).y ≡ one_more (at_positions var Y) n + 2 * g
+  pub z : (extents_of n g var).z ≡ one_more (at_positions var Z) n + 2 * g
+  pub own_x : (half_extents n var).x ≡ one_more (at_positions var X) n
+  pub own_y : (half_extents n var).y ≡ one_more (at_positions var Y) n
+  pub own_z : (half_extents n var).z ≡ one_more (at_positions var Z) n
+
+pub widths : (n g : ℕ) (var : Var) → Widths n g var
+widths n g (Cell v) = record { x = refl; y = refl; z = refl; own_x = refl; own_y = refl; own_z = refl }
+widths n g CellWork = record { x = refl; y = refl; z = refl; own_x = refl; own_y = refl; own_z = refl }
+widths n g (Face X) = record { x = omega arith; y = refl; z = refl; own_x = refl; own_y = refl; own_z = refl }
+widths n g (Face Y) = record { x = refl; y = omega arith; z = refl; own_x = refl; own_y = refl; own_z = refl }
+widths n g (Face Z) = record { x = refl; y = refl; z = omega arith; own_x = refl; own_y = refl; own_z = refl }
+widths n g (FaceWork X) = record { x = omega arith; y = refl; z = refl; own_x = refl; own_y = refl; own_z = refl }
+widths n g (FaceWork Y) = record { x = refl; y = omega arith; z = refl; own_x = refl; own_y = refl; own_z = refl }
+widths n g (FaceWork Z) = record { x = refl; y = refl; z = omega arith; own_x = refl; own_y = refl; own_z = refl }
+widths n g (Edge X) = record { x = refl; y = omega arith; z = omega arith; own_x = refl; own_y = refl; own_z = refl }
+widths n g (Edge Y) = record { x = omega arith; y = refl; z = omega arith; own_x = refl; own_y = refl; own_z = refl }
+widths n g (Edge Z) = record { x = omega arith; y = omega arith; z = refl; own_x = refl; own_y = refl; own_z = refl }
+widths n g (EdgeWork X) = record { x = refl; y = omega arith; z = omega arith; own_x = refl; own_y = refl; own_z = refl }
+widths n g (EdgeWork Y) = record { x = omega arith; y = refl; z = omega arith; own_x = refl; own_y = refl; own_z = refl }
+widths n g (EdgeWork Z) = record { x = omega arith; y = omega arith; z = refl; own_x = refl; own_y = refl; own_z = refl }
+
+pub all_reach : (n g : ℕ) (s : Shape) (var : Var) (b : BlockAt) (d : ℕ) (p : Patch) → IsSize n g → d < 27 → AreReaches n g s var b d p → AllReach (extents_of n g var) g p
+all_reach n g s var b d p size h is =
+    let w = widths n g var in
+    record {
+      x = strip_reaches n g (at_positions var X) (is_periodic s X) (roots s X * 2 ^ b.level) b.x (d % 3) p.x (extents_of n g var).x size (omega arith) w.x is.x;
+      y = strip_reaches n g (at_positions var Y) (is_periodic s Y) (roots s Y * 2 ^ b.level) b.y (d / 3 % 3) p.y (extents_of n g var).y size (omega arith) w.y is.y;
+      z = strip_reaches n g (at_positions var Z) (is_periodic s Z) (roots s Z * 2 ^ b.level) b.z (d / 9) p.z (extents_of n g var).z size (omega arith) w.z is.z;
+    }
+
+-- and at most 17 places along each axis
+pub extents_short : (n g : ℕ) → IsSize n g → (var : Var) → ((extents_of n g var).x ≤ 17) × ((extents_of n g var).y ≤ 17) × ((extents_of n g var).z ≤ 17)
+extents_short n g size var =
+    let w = widths n g var in
+    let f = guards_least size in
+    let l = cells_least size in
+    (short (at_positions var X) (extents_of n g var).x w.x, short (at_positions var Y) (extents_of n g var).y w.y, short (at_positions var Z) (extents_of n g var).z w.z)
+  where
+    short : (positions : Bool) (m : ℕ) → m ≡ one_more positions n + 2 * g → m ≤ 17
+    short true m is = (let f = guards_least size in let l = cells_least size in omega arith)
+    short false m is = (let f = guards_least size in let l = cells_least size in omega arith)

@@ -1,3 +1,4 @@
+pub mod AxisGuards
 pub mod AxisStrips
 pub mod Filled
 pub mod Gathering
@@ -5,7 +6,9 @@ pub mod NearViews
 pub mod Neighbours
 pub mod PatchRows
 pub mod Patches
+pub mod Reached
 pub mod Restricted
+pub mod Spreading
 pub mod TrialWorlds
 pub mod Summable
 pub mod AxisSums

@@ -19,7 +19,13 @@ use Rattle.mesh_model.proofs.TreeLemmas.Tiling.{leaf_shows, lies_refl, same_leve
 use Rattle.mesh_model.proofs.TreeLemmas.Touching.{Meet, Touch, meet_times, touch_shows, touch_up}
 use Rattle.guard_fill.specs.declared.strips.Patch.{Patch}
 use Rattle.guard_fill.specs.Filling.{IsKnown}
-use Rattle.guard_fill.specs.Strips.{IsBeside, IsPatch, block_of}
+use Rattle.guard_fill.specs.Strips.{IsBeside, block_of}
+
+-- the block of a patch is, on each axis, the same or one beside it
+pub record AreBeside (s : Shape) (b : BlockAt) (p : Patch) : Type 0 where
+  pub x : IsBeside (is_periodic s X) (roots s X * 2 ^ b.level) b.x p.x.block
+  pub y : IsBeside (is_periodic s Y) (roots s Y * 2 ^ b.level) b.y p.y.block
+  pub z : IsBeside (is_periodic s Z) (roots s Z * 2 ^ b.level) b.z p.z.block
 
 -- ---- they touch it
 
@@ -41,17 +47,17 @@ meets_finest periodic r l b c deep beside =
     subst (λ e. Meet periodic e (b * 2 ^ (10 - l)) (suc b * 2 ^ (10 - l)) (c * 2 ^ (10 - l)) (suc c * 2 ^ (10 - l))) (whole_turn r l deep)
     (meet_times periodic (r * 2 ^ l) b (suc b) c (suc c) (2 ^ (10 - l)) (meets periodic (r * 2 ^ l) b c beside))
 
-module _ (n e d : ℕ) (s : Shape) (b : BlockAt) (p : Patch) (is : IsPatch n e s b d p) where
+module _ (s : Shape) (b : BlockAt) (p : Patch) (is : AreBeside s b p) where
   patch_touches : b.level ≤ 10 → Touch s b (block_of b.level p)
   patch_touches deep = record { on = on }
     where
       on : (a : Axis) → Meet (is_periodic s a) (roots s a * 2 ^ 10) (low_end b.level (block_on a b)) (high_end b.level (block_on a b)) (low_end b.level (block_on a (block_of b.level p))) (high_end b.level (block_on a (block_of b.level p)))
-      on X = meets_finest (is_periodic s X) s.rx b.level b.x p.x.block deep is.x.beside
-      on Y = meets_finest (is_periodic s Y) s.ry b.level b.y p.y.block deep is.y.beside
-      on Z = meets_finest (is_periodic s Z) s.rz b.level b.z p.z.block deep is.z.beside
+      on X = meets_finest (is_periodic s X) s.rx b.level b.x p.x.block deep is.x
+      on Y = meets_finest (is_periodic s Y) s.ry b.level b.y p.y.block deep is.y
+      on Z = meets_finest (is_periodic s Z) s.rz b.level b.z p.z.block deep is.z
 
-  patch_inside : InDomain s b → InDomain s (block_of b.level p)
-  patch_inside inside = record { level = inside.level; x = is.x.beside.there; y = is.y.beside.there; z = is.z.beside.there }
+  pub patch_inside : InDomain s b → InDomain s (block_of b.level p)
+  patch_inside inside = record { level = inside.level; x = is.x.there; y = is.y.there; z = is.z.there }
 
 -- ---- and their views stand in nodes
 
@@ -62,8 +68,8 @@ parent_is d a h e =
     let half : (u : ℕ) → u / 2 ^ (d.level - a.level) ≡ u / 2 = λ u. ap (λ m. u / 2 ^ m) one in
     λ t. record { level = level t; x = (sym (half d.x) ∙ h.x) t; y = (sym (half d.y) ∙ h.y) t; z = (sym (half d.z) ∙ h.z) t }
 
-pub patch_known : (g : Grid) (n e d : ℕ) (b : BlockAt) (p : Patch) → Valid g → IsIn b g.leaves → IsPatch n e g.shape b d p → IsKnown g (block_of b.level p)
-patch_known g n e d b p valid leaf is =
+pub patch_known : (g : Grid) (b : BlockAt) (p : Patch) → Valid g → IsIn b g.leaves → AreBeside g.shape b p → IsKnown g (block_of b.level p)
+patch_known g b p valid leaf is =
     let s = g.shape in
     let c = block_of b.level p in
     let inside = valid.tiles.inside b leaf in
@@ -71,9 +77,9 @@ patch_known g n e d b p valid leaf is =
     elim (cases_Bool (is_split_block g c)) [
       | inl split ↦ (let under = split_says g c split in record { which = inl (in_node g valid c under.0 under.1 under.3) })
       | inr whole ↦
-          let round = home g valid.tiles valid.shape.max c (patch_inside n e d s b p is inside) whole in
+          let round = home g valid.tiles valid.shape.max c (patch_inside s b p is inside) whole in
           let other = round.0 in
-          let touch : Touch s b other = touch_up s b c other (patch_touches n e d s b p is deep) round.2 deep in
+          let touch : Touch s b other = touch_up s b c other (patch_touches s b p is deep) round.2 deep in
           let near = valid.rule.near b other leaf round.1 (touch_shows s b other touch) in
           let over : other.level ≤ b.level = round.2.level in
           elim (cases_lt other.level b.level) [

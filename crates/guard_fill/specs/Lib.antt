@@ -1,4 +1,5 @@
 pub mod Filling
+pub mod Guarding
 pub mod Near
 pub mod Restricting
 pub mod Strips

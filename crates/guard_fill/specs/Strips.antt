@@ -2,12 +2,12 @@
 --
 -- A direction is 0, 1 or 2 on each axis, as guard cells lie before the block's own cells, beside them or behind them. All the guard cells of a
 -- block in one direction have their numbers from the cells of one block.
-use Rattle.std.specs.Prelude.{◌≡◌, ℕ, zero, suc, ◌+◌, ◌-◌, ◌*◌, ◌/◌, ◌%◌, ◌^◌, ◌<◌, ◌≤◌, ◌⊎◌, Bool, true, ℤ, nat_lt, if◌then◌else◌}
+use Rattle.std.specs.Prelude.{◌≡◌, ℕ, zero, suc, ◌+◌, ◌-◌, ◌*◌, ◌/◌, ◌%◌, ◌^◌, ◌<◌, ◌≤◌, ◌⊎◌, Bool, true, false, ℤ, nat_lt, if◌then◌else◌}
 use Rattle.amr_num.specs.declared.Axis.TheVariants.{X, Y, Z}
 use Rattle.amr_num.specs.declared.BlockAt.{BlockAt}
 use Rattle.mesh_model.specs.declared.geometry.Shape.{Shape}
-use Rattle.mesh_model.specs.Geometry.Coordinates.{is_periodic, roots}
-use Rattle.mesh_model.specs.Fields.ArrayPlaces.{Box, side}
+use Rattle.mesh_model.specs.Geometry.Coordinates.{is_periodic, roots, wrapped}
+use Rattle.mesh_model.specs.Fields.ArrayPlaces.{Box, Extents, side}
 use Rattle.mesh_model.specs.Geometry.Outside.{brought_in}
 use Rattle.mesh_model.specs.Geometry.Places.{guard_index}
 use Rattle.guard_fill.specs.declared.strips.Patch.{Patch}
@@ -57,14 +57,33 @@ from_cells p cells i j k = cells (cell_at p.x i) (cell_at p.y j) (cell_at p.z k)
 abbrev pub inner : ℕ → (ℕ → ℕ → ℕ → ℤ) → ℕ → ℕ → ℕ → ℤ
 inner g numbers i j k = numbers (g + i) (g + j) (g + k)
 
--- the strip has the places of a direction on an axis of so many blocks, of a block at b, and each has its number from the cell that stands for it:
--- wrapped on a periodic axis, and clamped on another
-pub record IsStrip (n g : ℕ) (periodic : Bool) (blocks b direction : ℕ) (s : Strip) : Type 0 where
-  pub to : s.to ≡ begin_of n g direction
-  pub many : s.many ≡ many_of n g direction
+-- numbers stand at the cells of an axis, or at positions, of which n cells have one more
+abbrev pub one_more : Bool → ℕ → ℕ
+one_more true n = n + 1
+one_more false n = n
+
+-- the place that stands for a coordinate on an axis of e cells: wrapped on a periodic axis, and clamped on another
+abbrev pub brought_to : Bool → Bool → ℕ → ℤ → ℕ
+brought_to true periodic e p = brought_in periodic e e p
+brought_to false periodic e p = brought_in periodic e (e - 1) p
+
+-- and the name of one in the domain: position e of a periodic axis is position 0
+abbrev pub named : Bool → Bool → ℕ → ℕ → ℕ
+named true periodic e p = wrapped periodic e p
+named false periodic e p = p
+
+-- the strip has the places of a direction on an axis of so many blocks, of a block at b, and each has its number from the cell, or the position, that
+-- stands for it
+pub record IsReach (n g : ℕ) (positions periodic : Bool) (blocks b direction : ℕ) (s : Strip) : Type 0 where
+  pub to : s.to ≡ begin_of (one_more positions n) g direction
+  pub many : s.many ≡ many_of (one_more positions n) g direction
   pub beside : IsBeside periodic blocks b s.block
-  pub cells : (t : ℕ) → t < s.many → cell_at s t < n
-  pub stand : (t : ℕ) → t < s.many → brought_in periodic (blocks * n) (blocks * n - 1) (guard_index n g b (s.to + t)) ≡ n * s.block + cell_at s t
+  pub cells : (t : ℕ) → t < s.many → cell_at s t < one_more positions n
+  pub stand : (t : ℕ) → t < s.many → brought_to positions periodic (blocks * n) (guard_index n g b (s.to + t)) ≡ named positions periodic (blocks * n) (n * s.block + cell_at s t)
+
+-- on an axis of cells
+abbrev pub IsStrip : ℕ → ℕ → Bool → ℕ → ℕ → ℕ → Strip → Type 0
+IsStrip n g periodic blocks b direction s = IsReach n g false periodic blocks b direction s
 
 -- the patch has the places of a block in the direction d, which counts x first, then y by threes, then z by nines
 pub record IsPatch (n g : ℕ) (s : Shape) (b : BlockAt) (d : ℕ) (p : Patch) : Type 0 where
@@ -82,3 +101,20 @@ side_at n g i = if nat_lt i g then 0 else (if nat_lt i (g + n) then 1 else 2)
 
 abbrev pub direction_at : ℕ → ℕ → ℕ → ℕ → ℕ → ℕ
 direction_at n g i j k = side_at n g i + 3 * side_at n g j + 9 * side_at n g k
+
+-- ---- arrays of any variable
+
+-- a strip has places, which lie within an array of so many along the axis, and the places from which they have their numbers lie behind the first guards
+pub record Reaches (many g : ℕ) (s : Strip) : Type 0 where
+  pub some : 0 < s.many
+  pub to : s.to + s.many ≤ many
+  pub from : (t : ℕ) → t < s.many → g + cell_at s t + g < many
+
+pub record AllReach (e : Extents) (g : ℕ) (p : Patch) : Type 0 where
+  pub x : Reaches e.x g p.x
+  pub y : Reaches e.y g p.y
+  pub z : Reaches e.z g p.z
+
+-- what the places of a patch get of the numbers of a block
+abbrev pub from_places : ℕ → Patch → (ℕ → ℕ → ℕ → ℤ) → ℕ → ℕ → ℕ → ℤ
+from_places g p numbers i j k = numbers (g + cell_at p.x i) (g + cell_at p.y j) (g + cell_at p.z k)

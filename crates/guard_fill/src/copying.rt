@@ -2,19 +2,19 @@
 
 ghost use Rattle.amr_num.specs.Numbers as numbers;
 ghost use Rattle.amr_num.specs.Numbers.{at};
-ghost use Rattle.guard_fill.specs.Strips.{AreWithin, box_of, cell_at, from_cells, inner};
+ghost use Rattle.guard_fill.specs.Strips.{AllReach, AreWithin, box_of, cell_at, from_cells, from_places, inner};
 ghost use Rattle.mesh_model.specs.Fields.ArrayPlaces.{IsRowWritten, IsSize, IsWritten, cell_extents, number_at, place_in, size_of};
 ghost use Rattle.mesh_model.specs.Fields.Octants.{parted};
 ghost use Rattle.std.specs.Prelude.{◌≡◌, ℕ, ◌+◌, ◌*◌, ◌/◌, ◌%◌, ◌<◌, ◌≤◌, length};
 
 use crate::strips::{Patch, Strip};
 use amr_num::part;
-use block_store::{Extents, cell_row, place};
+use block_store::{Extents, cell_row, place, row};
 
 /// The cell from which a place of a strip has its number.
 #[inline]
 fn cell(strip: Strip, t: usize) -> usize
-    requires { cell_at strip t < 8 }
+    requires { cell_at strip t < 17 }
     ensures { result ≡ cell_at strip t }
 {
     strip.first + strip.step * t
@@ -39,7 +39,7 @@ fn row_start(n: usize, g: usize, patch: Patch, j: usize, k: usize) -> usize
 
 /// The numbers of a row of a strip, from a row of cells.
 fn copy_row(x: Strip, cells: &[i64], out: &mut [i64])
-    requires few { length cells.now ≤ 8 }
+    requires few { length cells.now ≤ 17 }
     requires cells { (t : ℕ) → t < length out.old → cell_at x t < length cells.now }
     ensures size { length out.new ≡ length out.old }
     ensures numbers { (t : ℕ) → t < length out.old → at out.new t ≡ at cells.now (cell_at x t) }
@@ -164,6 +164,57 @@ pub(crate) fn part_strip(
     for k in 0..patch.z.many {
         for j in 0..patch.y.many {
             part_strip_row(n, g, q, patch, parent, room, j, k);
+        }
+    }
+}
+
+/// Copies the row (j, k) of a patch from the places of a block's array with the same extents.
+fn copy_places_row(
+    extents: Extents,
+    g: usize,
+    patch: Patch,
+    source: &[i64],
+    room: &mut [i64],
+    j: usize,
+    k: usize,
+)
+    requires small { (extents.x ≤ 17) × (extents.y ≤ 17) × (extents.z ≤ 17) }
+    requires reach { AllReach extents g patch }
+    requires source { length source.now ≡ size_of extents }
+    requires room { length room.old ≡ size_of extents }
+    requires row { (j < patch.y.many) × (k < patch.z.many) }
+    ensures { IsRowWritten (place_in extents patch.x.to (patch.y.to + j) (patch.z.to + k)) patch.x.many
+        (λ t. from_places g patch (number_at extents source.now) t j k) room.old room.new }
+{
+    let y = g + cell(patch.y, j);
+    let z = g + cell(patch.z, k);
+    let numbers = row(extents, source, g, y, z, extents.x - 2 * g);
+    let to = place(
+        extents,
+        patch.x.to,
+        patch.y.to + j,
+        patch.z.to + k,
+    );
+    copy_row(patch.x, numbers, &mut room[to..to + patch.x.many]);
+}
+
+/// Copies a patch from the places of a block's array with the same extents.
+pub(crate) fn copy_places(
+    extents: Extents,
+    g: usize,
+    patch: Patch,
+    source: &[i64],
+    room: &mut [i64],
+)
+    requires small { (extents.x ≤ 17) × (extents.y ≤ 17) × (extents.z ≤ 17) }
+    requires reach { AllReach extents g patch }
+    requires source { length source.now ≡ size_of extents }
+    requires room { length room.old ≡ size_of extents }
+    ensures { IsWritten extents (box_of patch) (from_places g patch (number_at extents source.now)) room.old room.new }
+{
+    for k in 0..patch.z.many {
+        for j in 0..patch.y.many {
+            copy_places_row(extents, g, patch, source, room, j, k);
         }
     }
 }

@@ -4,7 +4,7 @@ ghost use Rattle.amr_num.specs.declared.CellAt.{CellAt};
 ghost use Rattle.guard_fill.specs.Filling as asked;
 ghost use Rattle.guard_fill.specs.Filling.{IsCellGroup, IsFilled, IsFilledAsked, IsGathered, IsKnown, IsPatched, LeavesAsked, LeavesGuarded, LeavesSided, OnlyGuards, cell_variable};
 ghost use Rattle.guard_fill.specs.Restricting.{IsReady};
-ghost use Rattle.guard_fill.specs.Strips.{AreWithin, IsPatch, IsStrip, block_of};
+ghost use Rattle.guard_fill.specs.Strips.{AreWithin, IsPatch, IsReach, block_of};
 ghost use Rattle.mesh_model.specs.declared.fields.values.Var.TheVariants.{Cell};
 ghost use Rattle.mesh_model.specs.Fields.ArrayPlaces.{IsSize, cell_extents, size_of};
 ghost use Rattle.mesh_model.specs.Fields.Ranks.{IsFit, OnlyOf};
@@ -53,9 +53,10 @@ fn is_asked(guards: Guards, direction: usize) -> bool
 }
 
 /// The places of a block's array in a direction on an axis.
-fn strip_on(
+pub(crate) fn strip_on(
     n: usize,
     g: usize,
+    positions: bool,
     shape: &Shape,
     axis: Axis,
     block: BlockAt,
@@ -65,12 +66,13 @@ fn strip_on(
     requires shape { IsShape shape.now }
     requires block { InDomain shape.now block }
     requires direction { direction < 3 }
-    ensures { IsStrip n g (coordinates.is_periodic shape.now axis) (coordinates.roots shape.now axis * 2 ^ block.level) (touch.block_on axis block) direction result }
+    ensures { IsReach n g positions (coordinates.is_periodic shape.now axis) (coordinates.roots shape.now axis * 2 ^ block.level) (touch.block_on axis block) direction result }
 {
     let blocks = roots(shape, axis) << block.level;
     strip_of(
         n,
         g,
+        positions,
         is_periodic(shape, axis),
         blocks,
         block_on(axis, block),
@@ -87,9 +89,9 @@ fn patch_of(n: usize, g: usize, shape: &Shape, block: BlockAt, direction: usize)
     ensures { IsPatch n g shape.now block direction result }
 {
     Patch {
-        x: strip_on(n, g, shape, Axis::X, block, direction % 3),
-        y: strip_on(n, g, shape, Axis::Y, block, direction / 3 % 3),
-        z: strip_on(n, g, shape, Axis::Z, block, direction / 9),
+        x: strip_on(n, g, false, shape, Axis::X, block, direction % 3),
+        y: strip_on(n, g, false, shape, Axis::Y, block, direction / 3 % 3),
+        z: strip_on(n, g, false, shape, Axis::Z, block, direction / 9),
     }
 }
 

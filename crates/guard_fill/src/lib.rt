@@ -3,6 +3,7 @@
 
 mod copying;
 mod filling;
+mod guarding;
 pub mod laws;
 mod restricting;
 mod strips;

@@ -25,10 +25,10 @@ use restrict_op::{restrict_cells, restrict_edges, restrict_faces};
 pub(crate) const MOST_PLACES: usize = 4096;
 
 /// The most places that any array has: 17, 17 and 16 along the axes.
-const MOST_NUMBERS: usize = 4624;
+pub(crate) const MOST_NUMBERS: usize = 4624;
 
 /// How many places a variable's array has.
-fn place_count(n: usize, g: usize, var: Var) -> usize
+pub(crate) fn place_count(n: usize, g: usize, var: Var) -> usize
     requires size { IsSize n g }
     ensures value { result ≡ size_of (extents_of n g var) }
     ensures few { result ≤ 4624 }

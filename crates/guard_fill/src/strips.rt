@@ -2,9 +2,9 @@
 //!
 //! A direction is 0, 1 or 2 on each axis, as guard cells lie before the block's own cells, beside them or behind them.
 
-ghost use Rattle.guard_fill.specs.Strips.{IsStrip};
+ghost use Rattle.guard_fill.specs.Strips.{IsReach, one_more};
 ghost use Rattle.mesh_model.specs.Fields.ArrayPlaces.{IsSize};
-ghost use Rattle.std.specs.Prelude.{◌<◌};
+ghost use Rattle.std.specs.Prelude.{◌≡◌, ◌+◌, ◌<◌, ◌≤◌};
 
 use mesh_model::geometry::{above, below};
 
@@ -35,12 +35,23 @@ pub(crate) struct Patch {
     pub z: Strip,
 }
 
+/// How many places of its own a block of `n` cells has on an axis: one more where numbers stand at positions.
+fn own_places(n: usize, positions: bool) -> usize
+    requires { n ≤ 8 }
+    ensures value { result ≡ one_more positions n }
+    ensures least { n ≤ result }
+    ensures most { result ≤ n + 1 }
+{
+    if positions { n + 1 } else { n }
+}
+
 /// The guard cells before a block, on an axis of so many blocks of its level.
-fn before(n: usize, g: usize, periodic: bool, blocks: u32, block: u32) -> Strip
+fn before(n: usize, g: usize, positions: bool, periodic: bool, blocks: u32, block: u32) -> Strip
     requires size { IsSize n g }
     requires block { block < blocks }
-    ensures { IsStrip n g periodic blocks block 0 result }
+    ensures { IsReach n g positions periodic blocks block 0 result }
 {
+    let _positions = positions;
     match below(periodic, blocks, block) {
         Some(other) => Strip {
             to: 0,
@@ -60,15 +71,15 @@ fn before(n: usize, g: usize, periodic: bool, blocks: u32, block: u32) -> Strip
 }
 
 /// The block's own cells.
-fn along(n: usize, g: usize, periodic: bool, blocks: u32, block: u32) -> Strip
+fn along(n: usize, g: usize, positions: bool, periodic: bool, blocks: u32, block: u32) -> Strip
     requires size { IsSize n g }
     requires block { block < blocks }
-    ensures { IsStrip n g periodic blocks block 1 result }
+    ensures { IsReach n g positions periodic blocks block 1 result }
 {
     let _axis = (periodic, blocks);
     Strip {
         to: g,
-        many: n,
+        many: own_places(n, positions),
         block,
         first: 0,
         step: 1,
@@ -76,24 +87,25 @@ fn along(n: usize, g: usize, periodic: bool, blocks: u32, block: u32) -> Strip
 }
 
 /// The guard cells behind a block.
-fn behind(n: usize, g: usize, periodic: bool, blocks: u32, block: u32) -> Strip
+fn behind(n: usize, g: usize, positions: bool, periodic: bool, blocks: u32, block: u32) -> Strip
     requires size { IsSize n g }
     requires block { block < blocks }
-    ensures { IsStrip n g periodic blocks block 2 result }
+    ensures { IsReach n g positions periodic blocks block 2 result }
 {
+    let own = own_places(n, positions);
     match above(periodic, blocks, block + 1) {
         Some(other) => Strip {
-            to: g + n,
+            to: g + own,
             many: g,
             block: other,
-            first: 0,
+            first: own - n,
             step: 1,
         },
         None => Strip {
-            to: g + n,
+            to: g + own,
             many: g,
             block,
-            first: n - 1,
+            first: own - 1,
             step: 0,
         },
     }
@@ -103,6 +115,7 @@ fn behind(n: usize, g: usize, periodic: bool, blocks: u32, block: u32) -> Strip
 pub(crate) fn strip_of(
     n: usize,
     g: usize,
+    positions: bool,
     periodic: bool,
     blocks: u32,
     block: u32,
@@ -111,11 +124,11 @@ pub(crate) fn strip_of(
     requires size { IsSize n g }
     requires block { block < blocks }
     requires direction { direction < 3 }
-    ensures { IsStrip n g periodic blocks block direction result }
+    ensures { IsReach n g positions periodic blocks block direction result }
 {
     match direction {
-        0 => before(n, g, periodic, blocks, block),
-        1 => along(n, g, periodic, blocks, block),
-        _ => behind(n, g, periodic, blocks, block),
+        0 => before(n, g, positions, periodic, blocks, block),
+        1 => along(n, g, positions, periodic, blocks, block),
+        _ => behind(n, g, positions, periodic, blocks, block),
     }
 }

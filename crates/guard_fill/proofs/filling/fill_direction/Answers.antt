@@ -34,7 +34,7 @@ read_patch-requires g c =
         c.requires.ready,
         (
           patch_within n e grid.shape b d p c.requires.ready.size c.requires.direction is,
-          (patch_known grid n e d b p valid (leaf_says grid b c.requires.leaf) is, c.requires.room),
+          (patch_known grid b p valid (leaf_says grid b c.requires.leaf) (record { x = is.x.beside; y = is.y.beside; z = is.z.beside }), c.requires.room),
         ),
       ),
     )

@@ -1,5 +1,5 @@
-use Rattle.guard_fill.proofs.AxisStrips.{along_same}
+use Rattle.guard_fill.proofs.AxisStrips.{reach_along}
 use Rattle.guard_fill.proofs.strips.along.Goals as goal
 
 pub returns : goal.returns
-returns c = along_same c.args.n c.args.g c.args.periodic c.args.blocks c.args.block c.requires.block
+returns c = reach_along c.args.n c.args.g c.args.positions c.args.periodic c.args.blocks c.args.block c.own_places.result c.requires.block c.own_places.ensures.value
