@@ -3,9 +3,6 @@ use Rattle.std.specs.Prelude.{◌≡◌, ℕ, ◌+◌, ◌/◌, ◌%◌, ◌<◌
 use Rattle.amr_num.specs.declared.BlockAt.{BlockAt}
 use Rattle.amr_num.specs.declared.CellAt.{CellAt}
 use Rattle.mesh_model.specs.Fields.ArrayPlaces.{HoldsGuards, IsInBox, cell_extents, cell_there, number_at, side}
-use Rattle.mesh_model.specs.declared.fields.values.Group.{Group}
-use Rattle.mesh_model.specs.declared.fields.values.Group.TheVariants as groups
-use Rattle.mesh_model.specs.Fields.Arrays.{Counts}
 use Rattle.mesh_model.specs.Fields.Octants.{cells_of}
 use Rattle.mesh_model.specs.Fields.Ranks.{WorldState}
 use Rattle.mesh_model.specs.Fields.Views.{cell_view}
@@ -21,18 +18,6 @@ use Rattle.guard_fill.specs.declared.filling.Guards.{Guards}
 use Rattle.guard_fill.specs.declared.filling.Guards.TheVariants.{All, AcrossSides}
 use Rattle.guard_fill.specs.declared.strips.Patch.{Patch}
 use Rattle.guard_fill.specs.Strips.{block_of, box_of, cell_at, direction_at}
-
--- the group is a cell variable that there is
-abbrev pub IsCellGroup : Counts → Group → Type 0
-IsCellGroup counts (groups.Cell v) = v < counts.cells
-IsCellGroup counts groups.Face = ⊥
-IsCellGroup counts groups.Edge = ⊥
-
--- the cell variable of a group that is one
-abbrev pub cell_variable : Group → ℕ
-cell_variable (groups.Cell v) = v
-cell_variable groups.Face = 0
-cell_variable groups.Edge = 0
 
 -- a node has on all its places, guards included, the views of a field at the cells that stand for them; each leaf does
 abbrev pub NodeGuarded : WorldState → ℕ → (CellAt → ℤ) → ℕ → Type 0

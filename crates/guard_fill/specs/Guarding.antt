@@ -97,7 +97,7 @@ direction_in var n g i j k = side_at (one_more (at_positions var X) n) g i + 3 *
 -- the arrays of faces or edges of a variable that there is
 abbrev pub IsField : Var → Type 0
 IsField (Face a) = Unit {0}
-IsField (Edge a) = ⊥
+IsField (Edge a) = Unit {0}
 IsField (Cell v) = ⊥
 IsField CellWork = ⊥
 IsField (FaceWork a) = ⊥

@@ -2,25 +2,24 @@
 
 ghost use Rattle.amr_num.specs.declared.CellAt.{CellAt};
 ghost use Rattle.guard_fill.specs.Filling as asked;
-ghost use Rattle.guard_fill.specs.Filling.{IsCellGroup, IsFilled, IsFilledAsked, IsGathered, IsKnown, IsPatched, LeavesAsked, LeavesGuarded, LeavesSided, OnlyGuards, cell_variable};
-ghost use Rattle.guard_fill.specs.Restricting.{IsReady};
-ghost use Rattle.guard_fill.specs.Strips.{AreWithin, IsPatch, IsReach, block_of};
+ghost use Rattle.guard_fill.specs.Filling.{IsFilled, IsFilledAsked, IsGathered, IsKnown, IsPatched, LeavesAsked, LeavesSided, OnlyGuards};
+ghost use Rattle.guard_fill.specs.Guarding.{HasMesh, LeavesGuardedOf, OnlyGuardsOf};
+ghost use Rattle.guard_fill.specs.Restricting.{FieldOf, IsGroupOf, IsReady, NodesHoldOf};
+ghost use Rattle.guard_fill.specs.Strips.{AreWithin, IsPatch, block_of};
 ghost use Rattle.mesh_model.specs.declared.fields.values.Var.TheVariants.{Cell};
 ghost use Rattle.mesh_model.specs.Fields.ArrayPlaces.{IsSize, cell_extents, size_of};
 ghost use Rattle.mesh_model.specs.Fields.Ranks.{IsFit, OnlyOf};
 ghost use Rattle.mesh_model.specs.Geometry.Blocks.{InDomain, parent_block};
-ghost use Rattle.mesh_model.specs.Geometry.Coordinates as coordinates;
 ghost use Rattle.mesh_model.specs.Geometry.Limits.{IsShape};
-ghost use Rattle.mesh_model.specs.Geometry.Touch as touch;
 ghost use Rattle.mesh_model.specs.Tree.Kinds.{is_leaf_block};
 ghost use Rattle.rank_world.specs.Holding.{IsLeafNode, NodesHold, cell_array};
 ghost use Rattle.std.specs.Prelude.{◌≡◌, ◌*◌, ◌^◌, ◌<◌, ℤ, length, true};
 
 use crate::copying::{copy_strip, part_strip};
+use crate::guarding::{fill_edges_of, fill_faces_of};
 use crate::restricting::MOST_PLACES;
-use crate::strips::{Patch, Strip, strip_of};
+use crate::strips::{Patch, strip_on};
 use amr_num::{Axis, BlockAt};
-use mesh_model::geometry::axes::{block_on, is_periodic, roots};
 use mesh_model::{Group, Shape, Var};
 use rank_world::World;
 
@@ -50,34 +49,6 @@ fn is_asked(guards: Guards, direction: usize) -> bool
             (x && y) || ((x && z) || (y && z))
         }
     }
-}
-
-/// The places of a block's array in a direction on an axis.
-pub(crate) fn strip_on(
-    n: usize,
-    g: usize,
-    positions: bool,
-    shape: &Shape,
-    axis: Axis,
-    block: BlockAt,
-    direction: usize,
-) -> Strip
-    requires size { IsSize n g }
-    requires shape { IsShape shape.now }
-    requires block { InDomain shape.now block }
-    requires direction { direction < 3 }
-    ensures { IsReach n g positions (coordinates.is_periodic shape.now axis) (coordinates.roots shape.now axis * 2 ^ block.level) (touch.block_on axis block) direction result }
-{
-    let blocks = roots(shape, axis) << block.level;
-    strip_of(
-        n,
-        g,
-        positions,
-        is_periodic(shape, axis),
-        blocks,
-        block_on(axis, block),
-        direction,
-    )
 }
 
 /// The places of a block's array in one of the 27 directions.
@@ -270,20 +241,21 @@ fn fill_cells_of<const N: usize, const G: usize>(world: &mut World<N, G>, v: u32
     fill_variable(world, v, guards, &mut room[..side * (side * side)]);
 }
 
-/// Writes the guard cells of a variable into all leaves: each has the view at its coordinate, wrapped on a periodic axis
-/// and clamped on another. The nodes above the leaves must hold their sums, as `restrict_all` leaves them. All else of
-/// the world stays.
+/// Writes the guard places of a variable into all leaves: each has the view at its coordinate, wrapped on a periodic axis
+/// and clamped on another, on the faces and edges of its sides too. The nodes above the leaves must hold their sums, as
+/// `restrict_all` leaves them. All else of the world stays.
 pub fn fill<const N: usize, const G: usize>(world: &mut World<N, G>, group: Group)
     requires fit { IsFit N G world.old }
-    requires group { IsCellGroup world.old.told.counts group }
-    ensures only { OnlyGuards world.old world.new (cell_variable group) }
+    requires group { IsGroupOf world.old.told.counts group }
+    requires mesh { HasMesh group world.old }
+    ensures only { OnlyGuardsOf group world.old world.new }
     ensures fit { IsFit N G world.new }
-    ensures guards { (content : CellAt → ℤ) → NodesHold world.old (cell_variable group) content → LeavesGuarded world.new (cell_variable group) content }
+    ensures guards { (field : FieldOf group) → NodesHoldOf world.old group field → LeavesGuardedOf world.new group field }
 {
     match group {
         Group::Cell(v) => fill_cells_of(world, v, Guards::All),
-        Group::Face => unreachable!(),
-        Group::Edge => unreachable!(),
+        Group::Face => fill_faces_of(world),
+        Group::Edge => fill_edges_of(world),
     }
 }
 

@@ -1,30 +1,30 @@
 //! The guard places of arrays of faces and of edges.
 
 ghost use Rattle.amr_num.specs.declared.CellAt.{CellAt};
+ghost use Rattle.amr_num.specs.declared.EdgeAt.{EdgeAt};
 ghost use Rattle.amr_num.specs.declared.FaceAt.{FaceAt};
 ghost use Rattle.block_tree.specs.Numbered.{block_at};
 ghost use Rattle.guard_fill.specs.Filling.{IsKnown};
 ghost use Rattle.guard_fill.specs.Guarding as guarding;
-ghost use Rattle.guard_fill.specs.Guarding.{AreNodeViews, AreReaches, AreViews, IsField, IsReachedTo, IsSpread, IsSpreadTo, LeavesGuardedFaces, LeavesReached, OnlyGuardAxes, OnlyGuardPlaces, canon};
+ghost use Rattle.guard_fill.specs.Guarding.{AreNodeViews, AreReaches, AreViews, IsField, IsReachedTo, IsSpread, IsSpreadTo, LeavesGuardedEdges, LeavesGuardedFaces, LeavesReached, OnlyGuardAxes, OnlyGuardPlaces, canon};
 ghost use Rattle.guard_fill.specs.Restricting.{HasViews, IsReady};
 ghost use Rattle.guard_fill.specs.Strips.{AllReach, block_of};
-ghost use Rattle.mesh_model.specs.declared.fields.values.Var.TheVariants.{Face};
-ghost use Rattle.mesh_model.specs.Fields.ArrayPlaces.{IsSize, extents_of, face_extents, number_at, size_of};
+ghost use Rattle.mesh_model.specs.declared.fields.values.Var.TheVariants.{Edge, Face};
+ghost use Rattle.mesh_model.specs.Fields.ArrayPlaces.{IsSize, edge_extents, extents_of, face_extents, number_at, size_of};
 ghost use Rattle.mesh_model.specs.Fields.Arrays.{array_in};
 ghost use Rattle.mesh_model.specs.Fields.Ranks.{IsFit, OnlyOf, rank_at};
 ghost use Rattle.mesh_model.specs.Geometry.Blocks.{InDomain, child_block, parent_block};
 ghost use Rattle.mesh_model.specs.Geometry.Limits.{IsShape};
 ghost use Rattle.mesh_model.specs.Tree.Kinds.{is_leaf_block};
-ghost use Rattle.rank_world.specs.Holding.{IsLeafNode, IsOfValidMesh, NodesHoldFaces};
+ghost use Rattle.rank_world.specs.Holding.{IsLeafNode, IsOfValidMesh, NodesHoldEdges, NodesHoldFaces};
 ghost use Rattle.std.specs.Prelude.{◌≡◌, ◌<◌, ℤ, length, true};
 
 use crate::copying::copy_places;
-use crate::filling::strip_on;
 use crate::restricting::{MOST_NUMBERS, place_count};
-use crate::strips::Patch;
+use crate::strips::{Patch, strip_on};
 use amr_num::{Axis, BlockAt};
 use block_store::Extents;
-use leaf_split::child_faces;
+use leaf_split::{child_edges, child_faces};
 use mesh_model::{Shape, Var};
 use rank_world::World;
 
@@ -101,6 +101,40 @@ fn make_faces<const N: usize, const G: usize>(
     }
 }
 
+/// Makes the edges along an axis that a child of a leaf would have.
+fn make_edges<const N: usize, const G: usize>(
+    world: &World<N, G>,
+    axis: Axis,
+    leaf: u32,
+    octant: u32,
+    block: BlockAt,
+    room: &mut [i64],
+)
+    requires ready { IsReady N G world.now (Edge axis) }
+    requires mesh { IsOfValidMesh world.now }
+    requires leaf { IsLeafNode world.now.told.grid leaf }
+    requires octant { octant < 8 }
+    requires child { child_block (block_at world.now.told.grid leaf) octant ≡ block }
+    requires block { InDomain world.now.told.grid.shape block }
+    requires room { length room.old ≡ size_of (edge_extents N G axis) }
+    ensures size { length room.new ≡ length room.old }
+    ensures views { (view : CellAt → ℤ) → AreViews world.now (Edge axis) view → let s = world.now.told.grid.shape in
+        HasViews s (Edge axis) (λ c. view (canon s (Edge axis) c)) block (number_at (extents_of s.n s.g (Edge axis)) room.new) }
+{
+    let mut on_x = [0i64; MOST_NUMBERS];
+    let mut on_y = [0i64; MOST_NUMBERS];
+    let mut on_z = [0i64; MOST_NUMBERS];
+    let cx = &mut on_x[..place_count(N, G, Var::Edge(Axis::X))];
+    let cy = &mut on_y[..place_count(N, G, Var::Edge(Axis::Y))];
+    let cz = &mut on_z[..place_count(N, G, Var::Edge(Axis::Z))];
+    child_edges(world, leaf, octant, block, cx, cy, cz);
+    match axis {
+        Axis::X => room.copy_from_slice(cx),
+        Axis::Y => room.copy_from_slice(cy),
+        Axis::Z => room.copy_from_slice(cz),
+    }
+}
+
 /// Makes the array of a variable that a child of a leaf would have.
 fn make_child<const N: usize, const G: usize>(
     world: &World<N, G>,
@@ -124,7 +158,7 @@ fn make_child<const N: usize, const G: usize>(
 {
     match var {
         Var::Face(axis) => make_faces(world, axis, leaf, octant, block, room),
-        Var::Edge(_) => unreachable!(),
+        Var::Edge(axis) => make_edges(world, axis, leaf, octant, block, room),
         Var::Cell(_) => unreachable!(),
         Var::CellWork => unreachable!(),
         Var::FaceWork(_) => unreachable!(),
@@ -331,4 +365,19 @@ pub(crate) fn fill_faces_of<const N: usize, const G: usize>(world: &mut World<N,
     reach_arrays(world, Var::Face(Axis::X));
     reach_arrays(world, Var::Face(Axis::Y));
     reach_arrays(world, Var::Face(Axis::Z));
+}
+
+/// Writes the guard places of the edges along each axis into all leaves.
+pub(crate) fn fill_edges_of<const N: usize, const G: usize>(world: &mut World<N, G>)
+    requires fit { IsFit N G world.old }
+    requires mesh { IsOfValidMesh world.old }
+    requires variable { 0 < world.old.told.counts.edges }
+    ensures only { OnlyGuardAxes Edge world.old world.new }
+    ensures fit { IsFit N G world.new }
+    ensures guards { (field : EdgeAt → ℤ) → NodesHoldEdges world.old field → LeavesGuardedEdges world.new field }
+{
+    let _shape = world.tree().shape();
+    reach_arrays(world, Var::Edge(Axis::X));
+    reach_arrays(world, Var::Edge(Axis::Y));
+    reach_arrays(world, Var::Edge(Axis::Z));
 }

@@ -4,8 +4,15 @@
 
 ghost use Rattle.guard_fill.specs.Strips.{IsReach, one_more};
 ghost use Rattle.mesh_model.specs.Fields.ArrayPlaces.{IsSize};
-ghost use Rattle.std.specs.Prelude.{◌≡◌, ◌+◌, ◌<◌, ◌≤◌};
+ghost use Rattle.mesh_model.specs.Geometry.Blocks.{InDomain};
+ghost use Rattle.mesh_model.specs.Geometry.Coordinates as coordinates;
+ghost use Rattle.mesh_model.specs.Geometry.Limits.{IsShape};
+ghost use Rattle.mesh_model.specs.Geometry.Touch as touch;
+ghost use Rattle.std.specs.Prelude.{◌≡◌, ◌+◌, ◌*◌, ◌^◌, ◌<◌, ◌≤◌};
 
+use amr_num::{Axis, BlockAt};
+use mesh_model::Shape;
+use mesh_model::geometry::axes::{block_on, is_periodic, roots};
 use mesh_model::geometry::{above, below};
 
 /// Places of an array on an axis, and where their numbers stand: in cells of one block, the first place in the first
@@ -112,7 +119,7 @@ fn behind(n: usize, g: usize, positions: bool, periodic: bool, blocks: u32, bloc
 }
 
 /// The places of a direction.
-pub(crate) fn strip_of(
+fn strip_of(
     n: usize,
     g: usize,
     positions: bool,
@@ -131,4 +138,32 @@ pub(crate) fn strip_of(
         1 => along(n, g, positions, periodic, blocks, block),
         _ => behind(n, g, positions, periodic, blocks, block),
     }
+}
+
+/// The places of a block's array in a direction on an axis.
+pub(crate) fn strip_on(
+    n: usize,
+    g: usize,
+    positions: bool,
+    shape: &Shape,
+    axis: Axis,
+    block: BlockAt,
+    direction: usize,
+) -> Strip
+    requires size { IsSize n g }
+    requires shape { IsShape shape.now }
+    requires block { InDomain shape.now block }
+    requires direction { direction < 3 }
+    ensures { IsReach n g positions (coordinates.is_periodic shape.now axis) (coordinates.roots shape.now axis * 2 ^ block.level) (touch.block_on axis block) direction result }
+{
+    let blocks = roots(shape, axis) << block.level;
+    strip_of(
+        n,
+        g,
+        positions,
+        is_periodic(shape, axis),
+        blocks,
+        block_on(axis, block),
+        direction,
+    )
 }

@@ -1,14 +1,21 @@
-use Rattle.std.proofs.Common.{◌≡◌, ap, subst, sym}
-use Rattle.rank_world.specs.Holding.{NodesHold}
-use Rattle.guard_fill.specs.Filling.{LeavesGuarded}
-use Rattle.guard_fill.specs.Filling.{cell_variable}
+use Rattle.std.proofs.Common.{subst, sym}
+use Rattle.mesh_model.specs.Fields.Ranks.{WorldState}
+use Rattle.mesh_model.specs.declared.fields.values.Group.{Group}
+use Rattle.guard_fill.specs.Guarding.{HasMesh, LeavesGuardedOf}
+use Rattle.guard_fill.specs.Restricting.{FieldOf, NodesHoldOf}
 use Rattle.guard_fill.proofs.Filled.{all_asked}
 use Rattle.guard_fill.proofs.filling.fill.Goals as goal
 
-pub returns-clause-guards : goal.returns-clause-guards
-returns-clause-guards g c content =
-    let old = c.args.world.now in
+abbrev Guards : WorldState → WorldState → Group → Type 0
+Guards old new group = (field : FieldOf group) → NodesHoldOf old group field → LeavesGuardedOf new group field
+
+pub returns-in-Cell-clause-guards : goal.returns-in-Cell-clause-guards
+returns-in-Cell-clause-guards g c =
     let new = c.fill_cells_of.new.world in
-    let v = c.in-Cell.v in
-    let same : cell_variable c.args.group ≡ v = ap cell_variable c.in-Cell.is in
-    subst (λ u. NodesHold old u content → LeavesGuarded new u content) (sym same) (λ holds. all_asked new v content (c.fill_cells_of.ensures.guards content holds))
+    subst (Guards c.args.world.now new) (sym c.in-Cell.is) (λ content holds. all_asked new c.in-Cell.v content (c.fill_cells_of.ensures.guards content holds))
+
+pub returns-in-Face-clause-guards : goal.returns-in-Face-clause-guards
+returns-in-Face-clause-guards g c = subst (Guards c.args.world.now c.fill_faces_of.new.world) (sym c.in-Face.is) c.fill_faces_of.ensures.guards
+
+pub returns-in-Edge-clause-guards : goal.returns-in-Edge-clause-guards
+returns-in-Edge-clause-guards g c = subst (Guards c.args.world.now c.fill_edges_of.new.world) (sym c.in-Edge.is) c.fill_edges_of.ensures.guards

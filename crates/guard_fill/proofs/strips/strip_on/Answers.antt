@@ -3,7 +3,7 @@ use Rattle.mesh_model.specs.Geometry.Coordinates.{is_periodic, roots}
 use Rattle.mesh_model.proofs.GeometryLemmas.ShapeLimits.{roots_few}
 use Rattle.guard_fill.specs.Strips.{IsReach}
 use Rattle.guard_fill.proofs.AxisStrips.{few_blocks}
-use Rattle.guard_fill.proofs.filling.strip_on.Goals as goal
+use Rattle.guard_fill.proofs.strips.strip_on.Goals as goal
 
 pub returns : goal.returns
 returns c =
