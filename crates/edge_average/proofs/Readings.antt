@@ -1,5 +1,5 @@
 -- The numbers on lines of leaves, the sums that are read from finer ones, and a world of which a line has taken them.
-use Rattle.std.proofs.Common.{◌≡◌, ℕ, ◌+◌, ◌*◌, ◌/◌, ◌^◌, ◌<◌, ◌≤◌, ◌⊎◌, Bool, true, false, List, length, ℤ, sym, ap, subst, ◌∙◌, arith}
+use Rattle.std.proofs.Common.{◌≡◌, ℕ, ◌+◌, ◌*◌, ◌/◌, ◌^◌, ◌<◌, ◌≤◌, Bool, true, false, List, length, ℤ, sym, ap, subst, ◌∙◌, arith}
 use Rattle.std.specs.Prelude.{if◌then◌else◌}
 use Rattle.amr_num.specs.Numbers.{Within, at}
 use Rattle.amr_num.proofs.Parts.{sum_below_same}
@@ -12,7 +12,6 @@ use Rattle.mesh_model.specs.Fields.Arrays.{HasVar, var_length}
 use Rattle.mesh_model.specs.Fields.FinePlaces.{edges_in}
 use Rattle.mesh_model.specs.Fields.Ranks.{IsFit, IsSized, WorldState, world_with}
 use Rattle.mesh_model.specs.Geometry.Coordinates.{half_edge}
-use Rattle.mesh_model.specs.Geometry.Limits.{IsShape}
 use Rattle.mesh_model.specs.Tree.Kinds.{Grid, is_leaf_block, is_leaf_edge}
 use Rattle.mesh_model.specs.Tree.ValidGrid.{Valid}
 use Rattle.mesh_model.proofs.FieldLemmas.Worlds.{fit_after, has_array, only_of, written_in}
@@ -26,13 +25,6 @@ use Rattle.edge_average.specs.Lines.{IsEdgePlace, child_on, edge_there, has_fine
 use Rattle.edge_average.proofs.HalfEdges.{in_child, inside_of, leaf_there, split_there, whole_of}
 use Rattle.edge_average.proofs.LineNames.{child_name}
 use Rattle.edge_average.proofs.LinePlaces.{at_line}
-
--- the sizes of a world's blocks
-pub sizes : (n e : ℕ) (s : Shape) → IsSized n e s → IsShape s → IsSize n e
-sizes n e s sized shape = record {
-  cells = subst (λ m. (m ≡ 4) ⊎ (m ≡ 8)) sized.cells shape.cells;
-  guards = subst (λ m. (m ≡ 1) ⊎ ((m ≡ 2) ⊎ (m ≡ 4))) sized.guards shape.guards;
-}
 
 -- ---- lines round which nothing finer stands
 

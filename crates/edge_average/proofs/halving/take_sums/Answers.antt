@@ -9,7 +9,8 @@ use Rattle.rank_world.specs.Holding.{edge_array, edge_var}
 use Rattle.edge_average.specs.EdgeArrays.{LineTaken}
 use Rattle.edge_average.specs.EdgeSums.{IsLineSet}
 use Rattle.edge_average.specs.Lines.{edge_there, sum_of_halves}
-use Rattle.edge_average.proofs.Readings.{line_taken, sizes}
+use Rattle.flux_conserve.proofs.Taking.{sizes}
+use Rattle.edge_average.proofs.Readings.{line_taken}
 use Rattle.edge_average.proofs.halving.take_sums.Goals as goal
 
 pub returns : goal.returns
