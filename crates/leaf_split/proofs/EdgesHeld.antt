@@ -164,9 +164,10 @@ module _ (w : WorldState) (of : IsOfValidMesh w) (declared : 0 < w.told.counts.e
       let free_above : is_split_edge g e ≡ false = refuted _ (λ split.
       let leaf_below = leaf_half g (tree g valid) (wide_of g.shape valid.shape) e h (omega arith) split (ap (is_split_edge g) (sym same) ∙ own.0) in
       let none = ap (is_leaf_edge g) (sym same) ∙ own.1 in
-      cc) in
-      (free_above,
-      leaf_edge_of_leaf g b some domain a u v t l.0 l.1 l.2 leaf whole ∙ ap not (sym (whole_edge g b some domain a u v t l.0 l.1 l.2 whole) ∙ free_above))
+      cc) in (
+        free_above,
+        leaf_edge_of_leaf g b some domain a u v t l.0 l.1 l.2 leaf whole ∙ ap not (sym (whole_edge g b some domain a u v t l.0 l.1 l.2 whole) ∙ free_above),
+      )
 
   pub small : (parent : Axis → List ℤ) → ((a : Axis) → HoldsEdges w.told.grid of.mesh.edges a b (edges_in w.told.grid a (parent a))) → (a : Axis) →
       EdgeSourcesAreSmall w.told.grid.shape.n w.told.grid.shape.g q kept a (edges_in w.told.grid a (parent a)) (edges_in w.told.grid a (xs a))

@@ -55,9 +55,7 @@ fn put_edges(world: &mut World<4, 1>, axis: Axis, values: &[i64])
     ensures value { edge_array false world.new axis 0 ≡ values.now }
 {
     let _size = world.values(Var::Edge(axis), 0);
-    world
-        .values_mut(Var::Edge(axis), 0)
-        .copy_from_slice(values);
+    world.values_mut(Var::Edge(axis), 0).copy_from_slice(values);
 }
 
 /// The world of one root, whose edges all have the number 7.
