@@ -1,5 +1,5 @@
 -- Arrays that stand one on each axis, whose guard places are written one after the other.
-use Rattle.std.proofs.Common.{◌≡◌, ℕ, ◌+◌, ◌<◌, true, false, ℤ, refl, sym, ap, subst, ◌∙◌, inl, inr}
+use Rattle.std.proofs.Common.{◌≡◌, ℕ, ◌+◌, ◌<◌, ℤ, refl, sym, ap, subst, ◌∙◌, inl, inr}
 use Rattle.std.proofs.lemmas.Bool.{cases_Bool}
 use Rattle.amr_num.specs.declared.Axis.{Axis}
 use Rattle.amr_num.specs.declared.Axis.TheVariants.{X, Y, Z}
@@ -10,18 +10,17 @@ use Rattle.amr_num.specs.declared.FaceAt.{FaceAt}
 use Rattle.mesh_model.specs.declared.geometry.Shape.{Shape}
 use Rattle.mesh_model.specs.declared.fields.values.Var.{Var}
 use Rattle.mesh_model.specs.declared.fields.values.Var.TheVariants.{Edge, Face}
-use Rattle.mesh_model.specs.Geometry.Canonical.{canonical_on}
-use Rattle.mesh_model.specs.Geometry.Coordinates.{edge_of, face_of, next}
+use Rattle.mesh_model.specs.Geometry.Coordinates.{edge_of, face_of}
 use Rattle.mesh_model.specs.Geometry.Places.{in_block}
 use Rattle.mesh_model.specs.Tree.Kinds.{is_leaf_block}
 use Rattle.mesh_model.specs.Fields.Arrays.{array_in}
-use Rattle.mesh_model.specs.Fields.ArrayPlaces.{HoldsEdgeGuards, HoldsEdges, HoldsFaceGuards, HoldsFaces, edge_there, extents_of, face_there, number_at}
-use Rattle.mesh_model.specs.Fields.FinePlaces.{edges_in, faces_in, half_extents}
+use Rattle.mesh_model.specs.Fields.ArrayPlaces.{edge_there, extents_of, face_there, number_at}
+use Rattle.mesh_model.specs.Fields.FinePlaces.{half_extents}
 use Rattle.mesh_model.specs.Fields.Ranks.{Told, WorldState, rank_at}
 use Rattle.mesh_model.specs.Fields.Views.{edge_view, face_view}
 use Rattle.block_tree.specs.Numbered.{IsNode, block_at}
-use Rattle.rank_world.specs.Holding.{IsLeafNode, NodesHoldEdges, NodesHoldFaces, edge_array, face_array}
-use Rattle.guard_fill.specs.Guarding.{AreNodeViews, LeavesGuardedEdges, LeavesGuardedFaces, LeavesReached, NodeReached, OnlyGuardAxes, OnlyGuardPlaces, canon, there_in}
+use Rattle.rank_world.specs.Holding.{IsLeafNode, NodesHoldEdges, NodesHoldFaces}
+use Rattle.guard_fill.specs.Guarding.{AreNodeViews, LeavesGuardedEdges, LeavesGuardedFaces, LeavesReached, OnlyGuardAxes, OnlyGuardPlaces, canon, there_in}
 use Rattle.guard_fill.specs.Restricting.{HasViews, NodesHave}
 use Rattle.guard_fill.proofs.AxisSums.{Apart}
 use Rattle.guard_fill.proofs.Reached.{axis_stays}
@@ -115,8 +114,8 @@ module _ (w : WorldState) (field : FaceAt → ℤ) where
       field,
       (λ node leaf x. record {
         at = λ i j k hi hj hk. (let g = u.told.grid in (nodes x node leaf.there).at i j k hi hj hk
-        ∙ ap (λ (t : Told). face_view t.grid field (face_of x (canon t.grid.shape (Face x) (in_block g.shape.n (block_at g node) i j k)))) (sym told)
-        ∙ ap (face_view g field) (sym (face_named g.shape x (in_block g.shape.n (block_at g node) i j k))));
+            ∙ ap (λ (t : Told). face_view t.grid field (face_of x (canon t.grid.shape (Face x) (in_block g.shape.n (block_at g node) i j k)))) (sym told)
+            ∙ ap (face_view g field) (sym (face_named g.shape x (in_block g.shape.n (block_at g node) i j k))));
       }),
       (λ c. ap (λ (t : Told). face_view t.grid field (face_of a c)) (sym told)),
     );
@@ -154,8 +153,8 @@ module _ (w : WorldState) (field : EdgeAt → ℤ) where
       field,
       (λ node leaf x. record {
         at = λ i j k hi hj hk. (let g = u.told.grid in (nodes x node leaf.there).at i j k hi hj hk
-        ∙ ap (λ (t : Told). edge_view t.grid field (edge_of x (canon t.grid.shape (Edge x) (in_block g.shape.n (block_at g node) i j k)))) (sym told)
-        ∙ ap (edge_view g field) (sym (edge_named g.shape x (in_block g.shape.n (block_at g node) i j k))));
+            ∙ ap (λ (t : Told). edge_view t.grid field (edge_of x (canon t.grid.shape (Edge x) (in_block g.shape.n (block_at g node) i j k)))) (sym told)
+            ∙ ap (edge_view g field) (sym (edge_named g.shape x (in_block g.shape.n (block_at g node) i j k))));
       }),
       (λ c. ap (λ (t : Told). edge_view t.grid field (edge_of a c)) (sym told)),
     );

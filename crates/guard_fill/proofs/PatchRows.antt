@@ -1,5 +1,5 @@
 -- Rows of patches.
-use Rattle.std.proofs.Common.{◌≡◌, ℕ, ◌<◌}
+use Rattle.std.proofs.Common.{ℕ, ◌<◌}
 use Rattle.mesh_model.specs.Fields.ArrayPlaces.{Extents, Fits, cell_extents}
 use Rattle.guard_fill.specs.declared.strips.Patch.{Patch}
 use Rattle.guard_fill.specs.Strips.{AllReach, AreWithin, box_of, cell_at}

@@ -1,27 +1,25 @@
 -- Worlds whose leaves get their guard places one after the other.
-use Rattle.std.proofs.Common.{◌≡◌, ◌≢◌, ℕ, ◌+◌, ◌<◌, ◌⊎◌, Bool, true, false, List, ℤ, refl, sym, ap, subst, ◌∙◌, arith, inl, inr, below_more}
+use Rattle.std.proofs.Common.{◌≡◌, ◌≢◌, ℕ, ◌+◌, ◌<◌, ◌⊎◌, false, List, ℤ, refl, sym, ap, subst, ◌∙◌, arith, inl, inr, below_more}
 use Rattle.std.proofs.lemmas.Bool.{cases_Bool, cases_order}
 use Rattle.amr_num.specs.declared.Axis.{Axis}
 use Rattle.amr_num.specs.declared.Axis.TheVariants.{X, Y, Z}
 use Rattle.amr_num.specs.declared.CellAt.{CellAt}
 use Rattle.amr_num.specs.declared.EdgeAt.{EdgeAt}
 use Rattle.amr_num.specs.declared.FaceAt.{FaceAt}
-use Rattle.mesh_model.specs.declared.geometry.Shape.{Shape}
 use Rattle.mesh_model.specs.declared.fields.values.Var.{Var}
 use Rattle.mesh_model.specs.declared.fields.values.Var.TheVariants.{Cell, CellWork, Edge, EdgeWork, Face, FaceWork}
 use Rattle.mesh_model.specs.Geometry.Coordinates.{edge_of, face_of}
-use Rattle.mesh_model.specs.Tree.Kinds.{Grid, is_leaf_block}
+use Rattle.mesh_model.specs.Tree.Kinds.{is_leaf_block}
 use Rattle.mesh_model.specs.Fields.Arrays.{array_in}
 use Rattle.mesh_model.specs.Fields.ArrayPlaces.{HoldsEdges, HoldsFaces, extents_of, number_at}
 use Rattle.mesh_model.specs.Fields.FinePlaces.{edges_in, faces_in, half_extents}
-use Rattle.mesh_model.specs.Fields.Plain.{Mesh}
 use Rattle.mesh_model.specs.Fields.Ranks.{IsSized, OnlyOf, Told, WorldState, rank_at}
 use Rattle.mesh_model.specs.Fields.Views.{edge_view, face_view}
 use Rattle.block_tree.specs.Numbered.{IsNode, block_at}
-use Rattle.rank_world.specs.Holding.{IsLeafNode, IsOfMesh, IsOfValidMesh, LeavesHold, LeavesHoldEdges, LeavesHoldFaces, edge_array, face_array}
+use Rattle.rank_world.specs.Holding.{IsLeafNode, IsOfValidMesh, LeavesHoldEdges, LeavesHoldFaces, edge_array, face_array}
 use Rattle.rank_world.proofs.Meshes.{edges_same, faces_same, mesh_kept}
 use Rattle.guard_fill.specs.Guarding.{AreNodeViews, AreViews, IsField, IsReachedTo, NodeReached, OnlyGuardPlaces, canon, there_in}
-use Rattle.guard_fill.specs.Restricting.{HasViews, NodeHas, NodesHave}
+use Rattle.guard_fill.specs.Restricting.{HasViews, NodesHave}
 use Rattle.guard_fill.proofs.AxisSums.{Apart}
 use Rattle.guard_fill.proofs.Restricted.{has_along, node_along}
 use Rattle.guard_fill.proofs.Spreading.{all_reached}
@@ -54,7 +52,7 @@ module _ (var : Axis → Var) (apart : Apart var) (now mid : WorldState) (x : Ax
   axis_stays a node leaf = elim (cases_axis a x) [
     | inl same ↦ subst (λ b. OwnStay now mid (var b) node) (sym same) (λ i j k. only.own node i j k leaf)
     | inr ne ↦ (let kept : array_in (rank_at mid 0).own.values (var a) node ≡ array_in (rank_at now 0).own.values (var a) node = only.others (var a) node (λ is l. ne (apart a x is)) in
-      λ i j k hi hj hk. (let s = now.told.grid.shape in ap (λ ys. number_at (extents_of s.n s.g (var a)) ys (s.g + i) (s.g + j) (s.g + k)) kept))
+        λ i j k hi hj hk. (let s = now.told.grid.shape in ap (λ ys. number_at (extents_of s.n s.g (var a)) ys (s.g + i) (s.g + j) (s.g + k)) kept))
   ]
 
 module _ (now mid : WorldState) (x : Axis) (only : OnlyGuardPlaces now mid (Face x)) where

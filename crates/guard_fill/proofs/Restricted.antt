@@ -1,5 +1,5 @@
 -- Nodes that are summed, octant by octant and node by node.
-use Rattle.std.proofs.Common.{◌≡◌, ◌≢◌, ℕ, suc, ◌+◌, ◌*◌, ◌/◌, ◌%◌, ◌<◌, ◌^◌, ◌⊎◌, true, false, List, ℤ, sym, ap, subst, ◌∙◌, arith, below_more}
+use Rattle.std.proofs.Common.{◌≡◌, ℕ, suc, ◌+◌, ◌/◌, ◌<◌, ◌^◌, ◌⊎◌, true, false, List, ℤ, sym, ap, subst, ◌∙◌, arith, below_more}
 use Rattle.amr_num.specs.declared.BlockAt.{BlockAt}
 use Rattle.amr_num.specs.declared.CellAt.{CellAt}
 use Rattle.amr_num.specs.Numbers.{Within}
@@ -11,7 +11,7 @@ use Rattle.mesh_model.specs.Geometry.Limits.{IsShape}
 use Rattle.mesh_model.specs.Tree.Kinds.{Grid, is_leaf_block, is_split_block}
 use Rattle.mesh_model.specs.Fields.Arrays.{HasVar, array_in}
 use Rattle.mesh_model.specs.Fields.ArrayPlaces.{HoldsViews, extents_of, number_at}
-use Rattle.mesh_model.specs.Fields.FinePlaces.{FineSumsAreSmall, IsSummed, half_extents}
+use Rattle.mesh_model.specs.Fields.FinePlaces.{FineSumsAreSmall, IsSummed}
 use Rattle.mesh_model.specs.Fields.Octants.{cells_of, half_at}
 use Rattle.mesh_model.specs.Fields.Ranks.{IsFit, IsSized, OnlyOf, Told, WorldState, rank_at}
 use Rattle.block_tree.specs.Numbered.{IsNumberOf, block_at}

@@ -1,5 +1,5 @@
 -- Places of faces and of edges that get the views that belong there.
-use Rattle.std.proofs.Common.{◌≡◌, ◌≢◌, ℕ, zero, suc, ◌+◌, ◌-◌, ◌*◌, ◌/◌, ◌%◌, ◌^◌, ◌<◌, ◌≤◌, Bool, true, false, List, length, ℤ, refl, sym, ap, ap₂, subst, ◌∙◌, arith, inl, inr}
+use Rattle.std.proofs.Common.{◌≡◌, ◌≢◌, ℕ, ◌+◌, ◌-◌, ◌*◌, ◌/◌, ◌%◌, ◌^◌, ◌<◌, Bool, false, List, ℤ, refl, sym, ap, ap₂, subst, ◌∙◌, arith, inl, inr}
 use Rattle.std.proofs.lemmas.Bool.{cases_lt}
 use Rattle.amr_num.specs.declared.Axis.{Axis}
 use Rattle.amr_num.specs.declared.Axis.TheVariants.{X, Y, Z}
@@ -14,9 +14,8 @@ use Rattle.mesh_model.specs.Geometry.Blocks.{InDomain}
 use Rattle.mesh_model.specs.Geometry.Canonical.{canonical_on}
 use Rattle.mesh_model.specs.Geometry.Coordinates.{edge_of, extent, face_of, is_periodic, next, roots}
 use Rattle.mesh_model.specs.Geometry.Places.{guard_index, in_block}
-use Rattle.mesh_model.specs.Tree.Kinds.{Grid}
 use Rattle.mesh_model.specs.Fields.Arrays.{array_in}
-use Rattle.mesh_model.specs.Fields.ArrayPlaces.{HoldsEdges, HoldsFaces, IsInBox, IsWritten, extents_of, number_at, side}
+use Rattle.mesh_model.specs.Fields.ArrayPlaces.{HoldsEdges, HoldsFaces, IsInBox, IsWritten, extents_of, number_at}
 use Rattle.mesh_model.specs.Fields.FinePlaces.{edges_in, faces_in, half_extents}
 use Rattle.mesh_model.specs.Fields.Ranks.{IsSized, WorldState, rank_at}
 use Rattle.mesh_model.specs.Fields.Views.{edge_view, face_view}
@@ -25,7 +24,7 @@ use Rattle.block_tree.specs.Numbered.{IsNode, block_at}
 use Rattle.guard_fill.specs.declared.strips.Patch.{Patch}
 use Rattle.guard_fill.specs.declared.strips.Strip.{Strip}
 use Rattle.guard_fill.specs.Guarding.{AreNodeViews, AreReaches, AreViews, IsReachedTo, IsSpread, IsSpreadTo, at_positions, canon, direction_in, there_in}
-use Rattle.guard_fill.specs.Restricting.{HasViews, NodeHas}
+use Rattle.guard_fill.specs.Restricting.{HasViews}
 use Rattle.guard_fill.specs.Strips.{AllReach, IsReach, block_of, box_of, brought_to, cell_at, from_places, named, one_more, side_at}
 use Rattle.guard_fill.proofs.AxisStrips.{reach_along, widths}
 use Rattle.guard_fill.proofs.Patches.{place_of_side, side_few, side_of_place, turn_over}
@@ -114,8 +113,10 @@ module _ (n e d : ℕ) (w : WorldState) (var : Var) (b : BlockAt) (p : Patch) (o
     (is : AreReaches n e w.told.grid.shape var b d p) (done : IsSpread n e w var b.level p old new) where
   abbrev mx : ℕ
   mx = one_more (at_positions var X) n
+
   abbrev my : ℕ
   my = one_more (at_positions var Y) n
+
   abbrev mz : ℕ
   mz = one_more (at_positions var Z) n
 

@@ -1,5 +1,5 @@
 -- Views of cells, faces and edges add up, and in a valid mesh those in split blocks are small enough to be stored.
-use Rattle.std.proofs.Common.{◌≡◌, ℕ, ◌+◌, ◌*◌, ◌<◌, ◌≤◌, ◌⊎◌, ◌^◌, true, false, ℤ, refl, sym, ap, subst, ◌∙◌, arith, inl, inr}
+use Rattle.std.proofs.Common.{◌≡◌, ℕ, ◌<◌, ◌≤◌, ◌⊎◌, ◌^◌, true, false, ℤ, refl, sym, ap, subst, ◌∙◌, arith, inl, inr}
 use Rattle.amr_num.specs.declared.Axis.{Axis}
 use Rattle.amr_num.specs.declared.Axis.TheVariants.{X, Y, Z}
 use Rattle.amr_num.specs.declared.BlockAt.{BlockAt}
@@ -9,7 +9,7 @@ use Rattle.amr_num.specs.declared.EdgeAt.{EdgeAt}
 use Rattle.amr_num.specs.Numbers.{Within}
 use Rattle.mesh_model.specs.declared.fields.values.Var.TheVariants.{Cell, Edge, Face}
 use Rattle.mesh_model.specs.Geometry.Blocks.{InDomain}
-use Rattle.mesh_model.specs.Geometry.Places.{in_block, longer_across, longer_on}
+use Rattle.mesh_model.specs.Geometry.Places.{in_block, longer_across}
 use Rattle.mesh_model.specs.Tree.Kinds.{Grid, is_split, is_split_block, is_split_edge, is_split_face}
 use Rattle.mesh_model.specs.Tree.ValidGrid.{Valid}
 use Rattle.mesh_model.specs.Fields.FaceSplits.{position}

@@ -2,7 +2,7 @@
 --
 -- Along the axis of a face, and across that of an edge, numbers stand at positions, of which a block has one more than cells: its first position is
 -- the last one of the block below, and its last one the first of the block above.
-use Rattle.std.specs.Prelude.{◌≡◌, ℕ, ◌+◌, ◌-◌, ◌*◌, ◌/◌, ◌%◌, ◌^◌, ◌<◌, ◌≤◌, Bool, true, false, List, length, ℤ}
+use Rattle.std.specs.Prelude.{◌≡◌, ℕ, ◌+◌, ◌*◌, ◌/◌, ◌%◌, ◌^◌, ◌<◌, Bool, true, false, List, length, ℤ}
 use Rattle.amr_num.specs.declared.Axis.{Axis}
 use Rattle.amr_num.specs.declared.Axis.TheVariants.{X, Y, Z}
 use Rattle.amr_num.specs.declared.BlockAt.{BlockAt}
@@ -16,16 +16,14 @@ use Rattle.mesh_model.specs.declared.fields.values.Var.{Var}
 use Rattle.mesh_model.specs.declared.fields.values.Var.TheVariants.{Cell, CellWork, Edge, EdgeWork, Face, FaceWork}
 use Rattle.mesh_model.specs.Geometry.Coordinates.{edge_of, extent, face_of, is_periodic, roots}
 use Rattle.mesh_model.specs.Geometry.Places.{guard_index, in_block}
-use Rattle.mesh_model.specs.Tree.Kinds.{Grid}
 use Rattle.mesh_model.specs.Fields.Arrays.{array_in}
-use Rattle.mesh_model.specs.Fields.ArrayPlaces.{Extents, HoldsEdgeGuards, HoldsFaceGuards, IsInBox, extents_of, number_at}
+use Rattle.mesh_model.specs.Fields.ArrayPlaces.{HoldsEdgeGuards, HoldsFaceGuards, IsInBox, extents_of, number_at}
 use Rattle.mesh_model.specs.Fields.FinePlaces.{edges_in, faces_in, half_extents}
 use Rattle.mesh_model.specs.Fields.Ranks.{WorldState, rank_at}
 use Rattle.mesh_model.specs.Fields.Views.{edge_view, face_view}
 use Rattle.block_tree.specs.Numbered.{block_at}
 use Rattle.rank_world.specs.Holding.{IsLeafNode, IsOfValidMesh, LeavesHoldEdges, LeavesHoldFaces, edge_array, face_array}
 use Rattle.guard_fill.specs.declared.strips.Patch.{Patch}
-use Rattle.guard_fill.specs.declared.strips.Strip.{Strip}
 use Rattle.guard_fill.specs.Filling.{LeavesGuarded, OnlyGuards}
 use Rattle.guard_fill.specs.Restricting.{FieldOf, NodesHave}
 use Rattle.guard_fill.specs.Strips.{IsReach, block_of, box_of, brought_to, cell_at, named, one_more, side_at}

@@ -189,12 +189,7 @@ fn copy_places_row(
     let y = g + cell(patch.y, j);
     let z = g + cell(patch.z, k);
     let numbers = row(extents, source, g, y, z, extents.x - 2 * g);
-    let to = place(
-        extents,
-        patch.x.to,
-        patch.y.to + j,
-        patch.z.to + k,
-    );
+    let to = place(extents, patch.x.to, patch.y.to + j, patch.z.to + k);
     copy_row(patch.x, numbers, &mut room[to..to + patch.x.many]);
 }
 

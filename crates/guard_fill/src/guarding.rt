@@ -43,14 +43,7 @@ fn at_positions(var: Var, axis: Axis) -> bool
 }
 
 /// The places of a block's array in one of the 27 directions.
-fn places_of(
-    n: usize,
-    g: usize,
-    shape: &Shape,
-    var: Var,
-    block: BlockAt,
-    direction: usize,
-) -> Patch
+fn places_of(n: usize, g: usize, shape: &Shape, var: Var, block: BlockAt, direction: usize) -> Patch
     requires size { IsSize n g }
     requires shape { IsShape shape.now }
     requires block { InDomain shape.now block }

@@ -1,7 +1,7 @@
 use Rattle.std.proofs.Common.{subst, sym}
 use Rattle.mesh_model.specs.Fields.Ranks.{WorldState}
 use Rattle.mesh_model.specs.declared.fields.values.Group.{Group}
-use Rattle.guard_fill.specs.Guarding.{HasMesh, LeavesGuardedOf}
+use Rattle.guard_fill.specs.Guarding.{LeavesGuardedOf}
 use Rattle.guard_fill.specs.Restricting.{FieldOf, NodesHoldOf}
 use Rattle.guard_fill.proofs.Filled.{all_asked}
 use Rattle.guard_fill.proofs.filling.fill.Goals as goal

@@ -1,11 +1,11 @@
-use Rattle.std.proofs.Common.{◌≡◌, ◌≤◌, arith, subst, sym, refl, List, ℤ, inl, inr}
+use Rattle.std.proofs.Common.{◌≤◌, arith, subst, sym, refl, List, ℤ, inl, inr}
 use Rattle.mesh_model.specs.Fields.ArrayPlaces.{Extents, IsWritten, extents_of, number_at}
 use Rattle.mesh_model.specs.Tree.Kinds.{Grid}
 use Rattle.mesh_model.specs.Tree.Order.{IsIn, nodes}
 use Rattle.block_tree.specs.Numbered.{IsNumberOf, block_at}
 use Rattle.guard_fill.specs.Guarding.{canon}
 use Rattle.guard_fill.specs.Restricting.{HasViews}
-use Rattle.guard_fill.specs.Strips.{AllReach, block_of, box_of, from_places}
+use Rattle.guard_fill.specs.Strips.{block_of, box_of, from_places}
 use Rattle.guard_fill.proofs.AxisStrips.{extents_short}
 use Rattle.guard_fill.proofs.Spreading.{spread_from}
 use Rattle.guard_fill.proofs.guarding.spread.Goals as goal

@@ -1,4 +1,4 @@
-use Rattle.std.proofs.Common.{◌≡◌, ◌+◌, ◌*◌, ◌%◌, ◌≤◌, ◌∙◌, ap, arith, subst, sym, true}
+use Rattle.std.proofs.Common.{◌≡◌, ◌+◌, ◌*◌, ◌%◌, ◌≤◌, ◌∙◌, ap, arith, subst, sym}
 use Rattle.mesh_model.specs.Fields.ArrayPlaces.{Extents, IsWritten, extents_of, number_at}
 use Rattle.mesh_model.specs.Geometry.Blocks.{child_block, parent_block}
 use Rattle.mesh_model.specs.Tree.Kinds.{Grid, is_leaf_block}
@@ -6,7 +6,7 @@ use Rattle.block_tree.specs.Numbered.{IsNumberOf, block_at}
 use Rattle.rank_world.specs.Holding.{IsLeafNode}
 use Rattle.guard_fill.specs.Guarding.{canon}
 use Rattle.guard_fill.specs.Restricting.{HasViews}
-use Rattle.guard_fill.specs.Strips.{AllReach, block_of, box_of, from_places}
+use Rattle.guard_fill.specs.Strips.{box_of, from_places}
 use Rattle.guard_fill.proofs.AxisStrips.{extents_short}
 use Rattle.guard_fill.proofs.Neighbours.{own_child}
 use Rattle.guard_fill.proofs.Spreading.{spread_from}

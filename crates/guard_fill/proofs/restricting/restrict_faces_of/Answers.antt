@@ -1,11 +1,10 @@
-use Rattle.std.proofs.Common.{◌∙◌, ◌<◌, ap, arith, subst, sym}
+use Rattle.std.proofs.Common.{◌∙◌, ap, arith}
 use Rattle.amr_num.specs.declared.Axis.{Axis}
 use Rattle.amr_num.specs.declared.Axis.TheVariants.{X, Y, Z}
 use Rattle.mesh_model.specs.declared.fields.values.Var.TheVariants.{Face}
-use Rattle.mesh_model.specs.Fields.Ranks.{Told}
 use Rattle.mesh_model.specs.Tree.Kinds.{Grid}
 use Rattle.restrict_op.proofs.FaceOctants.{view_of}
-use Rattle.guard_fill.proofs.AxisSums.{Apart, still_small, three_only, three_views}
+use Rattle.guard_fill.proofs.AxisSums.{still_small, three_only, three_views}
 use Rattle.guard_fill.proofs.Restricted.{ready_after, ready_now}
 use Rattle.guard_fill.proofs.Summable.{apart_faces, few_faces, faces_add_up, faces_have, nodes_hold_faces, valid}
 use Rattle.guard_fill.proofs.restricting.restrict_faces_of.Goals as goal

@@ -1,4 +1,4 @@
-use Rattle.std.proofs.Common.{◌≡◌, ◌+◌, ◌-◌, ◌≤◌, arith, subst, sym}
+use Rattle.std.proofs.Common.{◌≡◌, ◌+◌, ◌-◌, arith, subst, sym}
 use Rattle.guard_fill.specs.Strips.{IsReach}
 use Rattle.guard_fill.proofs.AxisStrips.{behind_other, behind_same, cells_least, reach_behind}
 use Rattle.guard_fill.proofs.strips.behind.Goals as goal
