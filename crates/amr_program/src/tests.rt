@@ -502,6 +502,34 @@ fn edges_go_with_the_mesh(rt: HostRuntime) -> Result<(), Fail> {
     Ok(())
 }
 
+/// Scripts that print the guards of a block which is its own neighbour on all sides, and how what they print begins.
+const GUARDED: [(&[u8], &[u8]); 2] = [
+    // The face at position 1 stands at position 5 again, where the domain begins anew, and in the guards on y and z.
+    (
+        b"domain 1 1 1\ncells 4 1\nlevels 0 0\nfacevar b\nfaceset x 0 1 0 0 5\nprint guards b 0 0 0 0\nend\n",
+        b"guards b x block 0 0 0 0\n0 0 0 0 0 0 0\n0 0 0 0 0 0 0\n0 0 0 0 0 0 0\n0 0 0 0 0 0 0\n\
+0 0 0 0 0 0 0\n0 0 0 0 0 0 0\n0 0 0 0 0 0 0\n0 0 5 0 0 0 5\n0 0 0 0 0 0 0\n0 0 0 0 0 0 0\n0 0 0 0 0 0 0\n\
+0 0 5 0 0 0 5\n0 0 0 0 0 0 0\n",
+    ),
+    // Across an edge there are positions: that at 0 stands at 4 again, and the one before position 1 at position 5.
+    (
+        b"domain 1 1 1\ncells 4 1\nlevels 0 0\nedgevar e\nedgeset x 0 1 1 0 7\nprint guards e 0 0 0 0\nend\n",
+        b"guards e x block 0 0 0 0\n0 0 0 0 0 0\n0 0 0 0 0 0\n0 0 0 0 0 0\n0 0 0 0 0 0\n0 0 0 0 0 0\n\
+0 0 0 0 0 0\n0 0 0 0 0 0\n0 0 0 0 0 0\n0 0 0 0 0 0\n0 0 7 0 0 0\n0 0 0 0 0 0\n0 0 0 0 0 0\n0 0 0 0 0 0\n\
+0 0 7 0 0 0\n0 0 0 0 0 0\n",
+    ),
+];
+
+#[test]
+fn guards_of_faces_and_edges_go_round(rt: HostRuntime) -> Result<(), Fail> {
+    for (script, begins) in GUARDED {
+        let (status, sink) = run(rt.alloc(), &[], script, QUIET)?;
+        assert_eq!(rt; status, Status::Done);
+        assert!(rt; sink.taken().starts_with(begins));
+    }
+    Ok(())
+}
+
 /// What stands below the sizes of a block: two roots, of which the first is refined, and a step over the jump of level.
 const STEPPED: &[u8] =
     b"levels 0 1\ncellvar u\nfill u box 0 0 0 0 4 4 4 8\nmark refine 0 0 0 0\nregrid\n\
