@@ -12,7 +12,7 @@ use std::alloc::Global;
 /// So many numbers that are all 0.
 fn zeros(alloc: Global, count: usize) -> Result<Vec<i64>, OutOfMemory>
     ensures size { IfOk result (λ list. length list.items ≡ count) }
-    ensures few { IfOk result (λ list. (p : ℕ) → Within (2 ^ 56) (at list.items p)) }
+    ensures few { IfOk result (λ list. (p : ℕ) → Within (2 ^ 58) (at list.items p)) }
 {
     match vec![in alloc; 0; count] {
         Ok(list) => Ok(list),
@@ -23,10 +23,10 @@ fn zeros(alloc: Global, count: usize) -> Result<Vec<i64>, OutOfMemory>
 /// Sets a number.
 fn set(list: &mut [i64], place: usize, number: i64)
     requires place { place < length list.old }
-    requires number { Within (2 ^ 56) number }
-    requires few { (p : ℕ) → Within (2 ^ 56) (at list.old p) }
+    requires number { Within (2 ^ 58) number }
+    requires few { (p : ℕ) → Within (2 ^ 58) (at list.old p) }
     ensures size { length list.new ≡ length list.old }
-    ensures few { (p : ℕ) → Within (2 ^ 56) (at list.new p) }
+    ensures few { (p : ℕ) → Within (2 ^ 58) (at list.new p) }
 {
     list[place] = number;
 }
@@ -42,8 +42,8 @@ fn curl_along_z(
 ) -> Result<(), RangeAt>
     requires zeros { length zeros.now ≡ 294 }
     requires ez { length ez.now ≡ 294 }
-    requires few_zeros { (p : ℕ) → Within (2 ^ 56) (at zeros.now p) }
-    requires few { (p : ℕ) → Within (2 ^ 56) (at ez.now p) }
+    requires few_zeros { (p : ℕ) → Within (2 ^ 58) (at zeros.now p) }
+    requires few { (p : ℕ) → Within (2 ^ 58) (at ez.now p) }
     requires out { length out.old ≡ size_of (face_extents 4 1 axis) }
     ensures { length out.new ≡ length out.old }
 {
