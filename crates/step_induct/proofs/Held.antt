@@ -20,7 +20,7 @@ use Rattle.mesh_model.specs.Tree.Kinds.{Grid}
 use Rattle.mesh_model.specs.Tree.ValidGrid.{Valid}
 use Rattle.mesh_model.proofs.FieldLemmas.FirstFound.{places_same}
 use Rattle.mesh_model.proofs.FieldLemmas.Sums.{wrapped_inside}
-use Rattle.step_induct.specs.Circling.{CirculationsAreHeld, circled, counted, edges_of, faces_of, first_above, told_above}
+use Rattle.step_induct.specs.Circling.{CirculationsAreHeld, IsCirculated, circled, counted, edges_of, faces_of, first_above, told_above}
 use Rattle.block_store.specs.Above.{counted_face_at, first_in_faces, is_counted_face}
 use Rattle.block_store.specs.declared.above.Above.{Above}
 use Rattle.block_store.specs.declared.above.CountedFaces.{CountedFaces}
@@ -160,3 +160,10 @@ pub found_told : (n g : ℕ) (a : Axis) (sides : List Bool) (faces : List ℤ) (
 found_told n g a sides faces found of is_of is =
     ap (option_map (told_above a))
     (sym (is ∙ ap (λ (c : CountedFaces). first_in_faces (λ x y z. number_at (face_extents n g c.axis) faces (g + x) (g + y) (g + z)) n c) is_of))
+
+-- and of circulations by what the faces have that were set to them
+pub found_circled : (n g : ℕ) (a : Axis) (sides : List Bool) (arrays : Axis → List ℤ) (old out : List ℤ) (found : Option Above) (of : CountedFaces) → of ≡ counted a sides → IsCirculated n g a arrays old out →
+    found ≡ first_in_faces (λ x y z. number_at (face_extents n g of.axis) out (g + x) (g + y) (g + z)) n of →
+    first_above n a sides (circled (edges_of n g arrays) a) ≡ option_map (told_above a) found
+found_circled n g a sides arrays old out found of is_of made is =
+    sym (found_same n a sides (faces_of n g a out) (circled (edges_of n g arrays) a) made.written) ∙ found_told n g a sides out found of is_of is

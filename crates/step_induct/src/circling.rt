@@ -50,7 +50,7 @@ fn plus(a: i64, b: i64) -> i64
 
 /// `a` without `b`.
 #[inline]
-fn less(a: i64, b: i64) -> i64
+pub(crate) fn less(a: i64, b: i64) -> i64
     requires a { Within (2 ^ 60) a }
     requires b { Within (2 ^ 60) b }
     ensures value { result ≡ a -ℤ b }

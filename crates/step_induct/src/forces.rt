@@ -13,7 +13,7 @@ ghost use Rattle.std.specs.Prelude.{◌≡◌, ℕ, ◌+◌, ◌*◌, ◌/◌, �
 ghost use Rattle.step_induct.specs.Forces as forces;
 ghost use Rattle.step_induct.specs.Forces.{AreEdgesWithin, AreFaceArrays, AreFacesNear, IsForced, IsSlow, flow_of, force_at, upstream_number};
 
-use crate::circling::{Size, along};
+use crate::circling::{Size, along, less};
 use amr_num::{Axis, carry};
 use block_store::{Extents, place, row};
 use mesh_model::geometry::axes::after;
@@ -110,7 +110,7 @@ fn force_from(
         let c = after(b);
         let forth = carry(speed_on(flow, c), flow.level, face_b);
         let back = carry(speed_on(flow, b), flow.level, face_c);
-        forth - back
+        less(forth, back)
     }
 }
 
@@ -146,7 +146,7 @@ fn upstream_row<'a>(
     normal: Axis,
     values: &'a [i64],
     axis: Axis,
-    speed: i64,
+    flow: &BlockFlow,
     j: usize,
     k: usize,
     many: usize,
@@ -156,10 +156,10 @@ fn upstream_row<'a>(
     requires some { 0 < many }
     requires inside { (many ≤ size.n + 1) × (j ≤ size.n) × (k ≤ size.n) }
     ensures size { length result.now ≡ many }
-    ensures numbers { (t : ℕ) → t < many → at result.now t ≡ upstream_number axis speed (number_at (face_extents size.n size.g normal) values.now) (size.g + t) (size.g + j) (size.g + k) }
+    ensures numbers { (t : ℕ) → t < many → at result.now t ≡ upstream_number axis (speed (three flow.now.speeds) axis) (number_at (face_extents size.n size.g normal) values.now) (size.g + t) (size.g + j) (size.g + k) }
 {
     let Size { n, g } = size;
-    let back = if speed < 0 { 0 } else { 1 };
+    let back = if speed_on(flow, axis) < 0 { 0 } else { 1 };
     row(
         Extents::of_faces(n, g, normal),
         values,
@@ -195,11 +195,9 @@ fn edge_row(
     let c = after(b);
     let normal_b = along(b, bx, by, bz);
     let normal_c = along(c, bx, by, bz);
-    let on_b = speed_on(flow, b);
-    let on_c = speed_on(flow, c);
     let many = out.len();
-    let faces_b = upstream_row(size, b, normal_b, c, on_c, j, k, many);
-    let faces_c = upstream_row(size, c, normal_c, b, on_b, j, k, many);
+    let faces_b = upstream_row(size, b, normal_b, c, flow, j, k, many);
+    let faces_c = upstream_row(size, c, normal_c, b, flow, j, k, many);
     force_row(size.n, axis, flow, faces_b, faces_c, j, k, out);
 }
 
@@ -247,7 +245,8 @@ fn edges(
     requires arrays { AreFaceArrays size.n size.g (by_axis bx.now by.now bz.now) }
     requires slow { IsSlow (flow_of flow.now) }
     requires out { length out.old ≡ size_of (edge_extents size.n size.g axis) }
-    ensures { IsForced size.n size.g axis (flow_of flow.now) (by_axis bx.now by.now bz.now) out.old out.new }
+    ensures forces { IsForced size.n size.g axis (flow_of flow.now) (by_axis bx.now by.now bz.now) out.old out.new }
+    ensures size { (most : ℕ) → AreFacesNear most size.n size.g (by_axis bx.now by.now bz.now) → AreEdgesWithin (2 * most) size.n size.g axis (number_at (edge_extents size.n size.g axis) out.new) }
 {
     let many = Extents::of_block_edges(size.n, axis);
     for m in 0..many.y * many.z {
