@@ -1,11 +1,13 @@
 -- Rows of a block's faces, and the edges round them.
 use borrow.Rule.Slice.PartMut.{put_mid}
 use Rattle.std.proofs.Common.{◌≡◌, ℕ, ◌+◌, ◌-◌, ◌/◌, ◌%◌, ◌<◌, ◌≤◌, List, length, ◌^◌, ℤ, ◌+ℤ◌, ◌-ℤ◌, ap, ap₂, sym, subst, ◌∙◌, arith, inl, inr, drop, take}
+use Rattle.std.specs.Prelude.{Bool, pos, [], ◌∷◌, unsigned_abs}
 use Rattle.std.proofs.lemmas.Int.{ints}
 use Rattle.std.proofs.lemmas.List.{length-drop, length-take-le}
 use Rattle.amr_num.specs.declared.Axis.{Axis}
 use Rattle.amr_num.specs.declared.Axis.TheVariants.{X, Y, Z}
 use Rattle.amr_num.specs.Numbers.{Within, at}
+use Rattle.mesh_model.specs.Fields.Advect.{three as three_of}
 use Rattle.mesh_model.specs.Fields.ArrayPlaces.{Fits, IsRowWritten, edge_extents, face_extents, number_at, place_in, row_of, size_of}
 use Rattle.mesh_model.specs.Fields.FaceSplits.{by_axis, face_box}
 use Rattle.mesh_model.specs.Geometry.Coordinates.{next, step}
@@ -13,7 +15,8 @@ use Rattle.mesh_model.specs.Geometry.Places.{longer_across, longer_on}
 use Rattle.mesh_model.proofs.FieldLemmas.Beside.{three}
 use Rattle.mesh_model.proofs.FieldLemmas.BlockPlaces.{row_put}
 use Rattle.block_store.specs.declared.regions.PlaceAt.{PlaceAt}
-use Rattle.step_induct.specs.Circling.{AreEdgeArrays, circled, edges_of, faces_of, lessened, round_in}
+use Rattle.step_induct.specs.Circling.{AreEdgeArrays, IsFaceArray, circled, edges_of, faces_of, lessened, round_in}
+use Rattle.step_induct.specs.Forces.{AreFaceArrays, IsSlow}
 
 -- the places of the edges round a face are those of the block's edges
 pub low_inside : (a : Axis) (n t j k : ℕ) → t < longer_on a X n → j < longer_on a Y n → k < longer_on a Z n → let b = next a in
@@ -130,10 +133,35 @@ lessened_rows n g a faces arrays m now mid new first second = record {
 
 -- ---- in tests
 
--- arrays of blocks of 4 cells along each axis with a guard cell on each side, whose numbers are few enough
-pub few_arrays : (ex ey ez : List ℤ) → length ex ≡ 294 → length ey ≡ 294 → length ez ≡ 294 → ((p : ℕ) → Within (2 ^ 58) (at ex p)) → ((p : ℕ) → Within (2 ^ 58) (at ey p)) → ((p : ℕ) → Within (2 ^ 58) (at ez p)) →
+-- arrays of blocks of 4 cells along each axis with a guard cell on each side, all of whose numbers are small enough
+pub few_arrays : (ex ey ez : List ℤ) → length ex ≡ 294 → length ey ≡ 294 → length ez ≡ 294 → ((p : ℕ) → Within (2 ^ 56) (at ex p)) → ((p : ℕ) → Within (2 ^ 56) (at ey p)) → ((p : ℕ) → Within (2 ^ 56) (at ez p)) →
     AreEdgeArrays 4 1 (by_axis ex ey ez)
 few_arrays ex ey ez lx ly lz fx fy fz = record {
   whole = three (λ a. length (by_axis ex ey ez a) ≡ size_of (edge_extents 4 1 a)) lx ly lz;
-  small = λ a i j k hi hj hk. three (λ a. (p : ℕ) → Within (2 ^ 58) (at (by_axis ex ey ez a) p)) fx fy fz a (place_in (edge_extents 4 1 a) (1 + i) (1 + j) (1 + k));
+  small = λ a i j k hi hj hk.
+      let own = three (λ a. (p : ℕ) → Within (2 ^ 56) (at (by_axis ex ey ez a) p)) fx fy fz a (place_in (edge_extents 4 1 a) (1 + i) (1 + j) (1 + k)) in
+      omega arith;
+}
+
+pub few_faces : (a : Axis) (faces : List ℤ) → length faces ≡ 252 → ((p : ℕ) → Within (2 ^ 56) (at faces p)) → IsFaceArray 4 1 a faces
+few_faces X faces long few = record { whole = long; small = λ i j k hi hj hk. few (place_in (face_extents 4 1 X) (1 + i) (1 + j) (1 + k)) }
+few_faces Y faces long few = record { whole = long; small = λ i j k hi hj hk. few (place_in (face_extents 4 1 Y) (1 + i) (1 + j) (1 + k)) }
+few_faces Z faces long few = record { whole = long; small = λ i j k hi hj hk. few (place_in (face_extents 4 1 Z) (1 + i) (1 + j) (1 + k)) }
+
+pub few_face_arrays : (bx by bz : List ℤ) → length bx ≡ 252 → length by ≡ 252 → length bz ≡ 252 → ((p : ℕ) → Within (2 ^ 56) (at bx p)) → ((p : ℕ) → Within (2 ^ 56) (at by p)) → ((p : ℕ) → Within (2 ^ 56) (at bz p)) →
+    AreFaceArrays 4 1 (by_axis bx by bz)
+few_face_arrays bx by bz lx ly lz fx fy fz = record {
+  whole = three (λ a. length (by_axis bx by bz a) ≡ size_of (face_extents 4 1 a)) lx ly lz;
+  small = record { at = λ a i j k hi hj hk. three (λ a. (p : ℕ) → Within (2 ^ 56) (at (by_axis bx by bz a) p)) fx fy fz a (place_in (face_extents 4 1 a) i j k) };
+}
+
+-- speeds of at most one coarsest cell a step
+pub slow_flow : (y z : ℤ) (closed : List Bool) → unsigned_abs y ≤ 2 ^ 20 → unsigned_abs z ≤ 2 ^ 20 → IsSlow (record { level = 0; speeds = three_of (pos 0 ∷ y ∷ z ∷ []); closed = closed })
+slow_flow y z closed hy hz = record {
+  level = omega arith;
+  speed_on = elim [
+    | X ↦ omega arith
+    | Y ↦ omega arith
+    | Z ↦ omega arith
+  ];
 }
