@@ -1,23 +1,19 @@
 -- The circulations of a field round a block's faces, and those of them that are out of range.
-use Rattle.std.proofs.Common.{◌≡◌, ℕ, suc, ◌+◌, ◌*◌, ◌^◌, ◌<◌, ◌≤◌, List, ℤ, ◌+ℤ◌, ◌-ℤ◌, Option, ap, ap₂, sym, ◌∙◌, arith, true, false, Bool, ◌&&◌, ◌==◌, mul_comm}
+use Rattle.std.proofs.Common.{◌≡◌, ℕ, suc, ◌+◌, ◌*◌, ◌^◌, ◌<◌, ◌≤◌, List, ℤ, ◌+ℤ◌, ◌-ℤ◌, Option, ap, ap₂, sym, ◌∙◌, arith, true, false, Bool}
 use Rattle.std.specs.Prelude.{if◌then◌else◌, option_map, Some, None}
 use Rattle.std.proofs.Math.Nat.{mul-le-mul_left}
 use Rattle.amr_num.specs.declared.Axis.{Axis}
 use Rattle.amr_num.specs.declared.Axis.TheVariants.{X, Y, Z}
 use Rattle.amr_num.specs.declared.BlockAt.{BlockAt}
 use Rattle.amr_num.specs.declared.EdgeAt.{EdgeAt}
-use Rattle.mesh_model.specs.declared.geometry.Shape.{Shape}
 use Rattle.mesh_model.specs.Fields.ArrayPlaces.{HoldsEdgeField, face_extents, number_at}
 use Rattle.mesh_model.specs.Fields.Circulation.{circulation}
-use Rattle.mesh_model.specs.Fields.FaceSplits.{face_box}
-use Rattle.mesh_model.specs.Fields.FinePlaces.{edges_in, faces_in}
-use Rattle.mesh_model.specs.Fields.Firsts.{first_in_places}
+use Rattle.mesh_model.specs.Fields.FinePlaces.{edges_in}
 use Rattle.mesh_model.specs.Geometry.Blocks.{InDomain}
 use Rattle.mesh_model.specs.Geometry.Canonical.{canonical_on}
-use Rattle.mesh_model.specs.Geometry.Coordinates.{edge_of, extent, face_of, is_periodic, roots, wrapped}
-use Rattle.mesh_model.specs.Geometry.Places.{in_block, longer_across, longer_on}
+use Rattle.mesh_model.specs.Geometry.Coordinates.{extent, face_of, is_periodic, wrapped}
+use Rattle.mesh_model.specs.Geometry.Places.{in_block, longer_on}
 use Rattle.mesh_model.specs.Tree.Kinds.{Grid}
-use Rattle.mesh_model.specs.Tree.ValidGrid.{Valid}
 use Rattle.mesh_model.proofs.FieldLemmas.FirstFound.{places_same}
 use Rattle.mesh_model.proofs.FieldLemmas.Sums.{wrapped_inside}
 use Rattle.step_induct.specs.Circling.{CirculationsAreHeld, IsCirculated, circled, counted, edges_of, faces_of, first_above, told_above}

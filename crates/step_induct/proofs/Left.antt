@@ -1,5 +1,5 @@
 -- What is left of a field on a block's faces when circulations are taken from it.
-use Rattle.std.proofs.Common.{◌≡◌, ℕ, ◌+◌, ◌*◌, ◌^◌, ◌<◌, ◌≤◌, Bool, true, false, not, ◌&&◌, ◌||◌, ◌==◌, List, ℤ, ◌-ℤ◌, refl, ap, ap₂, sym, ◌∙◌, arith, inl, inr, eq-eqb, lt-ltb}
+use Rattle.std.proofs.Common.{◌≡◌, ℕ, ◌+◌, ◌*◌, ◌^◌, ◌<◌, ◌≤◌, Bool, true, false, not, ◌||◌, ◌-ℤ◌, refl, ap, ap₂, sym, ◌∙◌, arith, inl, inr, eq-eqb, lt-ltb}
 use Rattle.std.specs.Prelude.{nat_lt}
 use Rattle.std.proofs.Math.Nat.{mul-le-mul_left}
 use Rattle.std.proofs.lemmas.Bool.{cases_lt}
@@ -7,17 +7,13 @@ use Rattle.amr_num.specs.declared.Axis.{Axis}
 use Rattle.amr_num.specs.declared.Axis.TheVariants.{X, Y, Z}
 use Rattle.amr_num.specs.declared.BlockAt.{BlockAt}
 use Rattle.amr_num.specs.declared.CellAt.{CellAt}
-use Rattle.amr_num.specs.declared.EdgeAt.{EdgeAt}
-use Rattle.amr_num.specs.declared.FaceAt.{FaceAt}
 use Rattle.mesh_model.specs.declared.geometry.Shape.{Shape}
 use Rattle.mesh_model.specs.Fields.Circulation.{circulation}
 use Rattle.mesh_model.specs.Fields.Induct.{electromotive_force}
 use Rattle.mesh_model.specs.Geometry.Blocks.{InDomain}
 use Rattle.mesh_model.specs.Geometry.Canonical.{canonical_on, is_canonical, is_canonical_at}
-use Rattle.mesh_model.specs.Geometry.Coordinates.{extent, face_of, is_periodic, on, roots, wrapped}
+use Rattle.mesh_model.specs.Geometry.Coordinates.{extent, face_of, is_periodic, on, wrapped}
 use Rattle.mesh_model.specs.Geometry.Places.{in_block, longer_on}
-use Rattle.mesh_model.specs.Geometry.Touch.{block_on}
-use Rattle.mesh_model.specs.Tree.Kinds.{Grid}
 use Rattle.mesh_model.proofs.FieldLemmas.CellKinds.{wide_of}
 use Rattle.mesh_model.proofs.FieldLemmas.Divergence.{on_leaf_face}
 use Rattle.mesh_model.proofs.FieldLemmas.LeafFaces.{view_of_leaf_face}

@@ -1,29 +1,24 @@
 -- The forces of a block's edges are the mesh's where its arrays of faces have their guard values.
-use Rattle.std.proofs.Common.{◌≡◌, ℕ, suc, ◌+◌, ◌-◌, ◌*◌, ◌^◌, ◌<◌, ◌≤◌, Bool, ◌&&◌, ◌||◌, ◌==◌, List, ℤ, pos, ◌-ℤ◌, ap, ap₂, sym, ◌∙◌, arith, inl, inr}
+use Rattle.std.proofs.Common.{◌≡◌, ℕ, suc, ◌+◌, ◌-◌, ◌*◌, ◌^◌, ◌<◌, ◌≤◌, Bool, ◌&&◌, ◌||◌, ◌==◌, pos, ◌-ℤ◌, ap, ap₂, sym, ◌∙◌, arith, inl, inr}
 use Rattle.std.specs.Prelude.{if◌then◌else◌}
 use Rattle.amr_num.specs.Numbers.{carry}
 use Rattle.amr_num.specs.declared.Axis.{Axis}
 use Rattle.amr_num.specs.declared.Axis.TheVariants.{X, Y, Z}
 use Rattle.amr_num.specs.declared.BlockAt.{BlockAt}
 use Rattle.amr_num.specs.declared.CellAt.{CellAt}
-use Rattle.amr_num.specs.declared.EdgeAt.{EdgeAt}
 use Rattle.mesh_model.specs.declared.geometry.Shape.{Shape}
 use Rattle.mesh_model.specs.Fields.Advect.{Speeds, blown_from, is_closed_at, is_closed_kind, speed}
-use Rattle.mesh_model.specs.Fields.ArrayPlaces.{HoldsFaceGuards}
-use Rattle.mesh_model.specs.Fields.FaceSplits.{all_faces}
-use Rattle.mesh_model.specs.Fields.FinePlaces.{faces_in}
 use Rattle.mesh_model.specs.Fields.Induct.{edge_on_closed_side, leaf_electromotive_force}
 use Rattle.mesh_model.specs.Fields.Views.{face_view}
 use Rattle.mesh_model.specs.Geometry.Blocks.{InDomain}
 use Rattle.mesh_model.specs.Geometry.Canonical.{canonical_on}
 use Rattle.mesh_model.specs.Geometry.Coordinates.{edge_of, extent, face_of, is_periodic, next, on, roots, side_index, side_kind, step, wrapped}
 use Rattle.mesh_model.specs.Geometry.Limits.{IsShape}
-use Rattle.mesh_model.specs.Geometry.Places.{in_block, longer_across}
+use Rattle.mesh_model.specs.Geometry.Places.{in_block}
 use Rattle.mesh_model.specs.Geometry.Touch.{block_on}
-use Rattle.mesh_model.specs.Tree.Kinds.{Grid}
 use Rattle.mesh_model.proofs.GeometryLemmas.OnAxes.{with_level}
 use Rattle.mesh_model.proofs.GeometryLemmas.ShapeLimits.{cells_some}
-use Rattle.step_induct.specs.Forces.{Flow, ForcesAreOfLeaves, IsFlowOf, force_from, is_closed_edge, is_closed_position, is_on_side, places_back, upstream_number}
+use Rattle.step_induct.specs.Forces.{Flow, ForcesAreOfLeaves, IsFlowOf, force_from, is_closed_edge, is_closed_position, is_on_side, places_back}
 use Rattle.step_induct.proofs.Forced.{edge_inside}
 use Rattle.step_induct.proofs.Sides.{on_domain_side}
 use Rattle.step_induct.proofs.Upstream.{closed_named, first_there, second_there, upstream_places}
@@ -94,5 +89,5 @@ forces_of_leaves g field n a b flow arrays old new shape inside is holds forced 
       forced.written i j k hi hj hk
       ∙ three_same (λ t u v. if t then pos 0 else carry on_d flow.level u -ℤ carry on_c flow.level v) _ _ _ _ _ _ (closed_is s n b flow shape inside is a i j k le.0 le.1 le.2) first second
       ∙ ap₂ (λ (m : Speeds) l. if edge_on_closed_side s (edge_of a name) then pos 0
-        else carry (speed m d) l (face_view g field (face_of c (blown_from s d (speed m d) name))) -ℤ carry (speed m c) l (face_view g field (face_of d (blown_from s c (speed m c) name)))) is.speeds_of (is.level ∙ sym (named_level s c d (in_block s.n b i j k)));
+      else carry (speed m d) l (face_view g field (face_of c (blown_from s d (speed m d) name))) -ℤ carry (speed m c) l (face_view g field (face_of d (blown_from s c (speed m c) name)))) is.speeds_of (is.level ∙ sym (named_level s c d (in_block s.n b i j k)));
 }

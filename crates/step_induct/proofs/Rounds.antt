@@ -1,6 +1,6 @@
 -- Rows of a block's faces, and the edges round them.
 use borrow.Rule.Slice.PartMut.{put_mid}
-use Rattle.std.proofs.Common.{◌≡◌, ℕ, ◌+◌, ◌-◌, ◌/◌, ◌%◌, ◌<◌, ◌≤◌, List, length, ◌^◌, ℤ, ◌+ℤ◌, ◌-ℤ◌, ap, ap₂, sym, subst, ◌∙◌, arith, inl, inr, drop, take}
+use Rattle.std.proofs.Common.{◌≡◌, ℕ, ◌+◌, ◌-◌, ◌/◌, ◌%◌, ◌<◌, ◌≤◌, List, length, ◌^◌, ℤ, ◌+ℤ◌, ◌-ℤ◌, ap, ap₂, sym, subst, ◌∙◌, arith, drop, take}
 use Rattle.std.specs.Prelude.{Bool, pos, [], ◌∷◌, unsigned_abs}
 use Rattle.std.proofs.lemmas.Int.{ints}
 use Rattle.std.proofs.lemmas.List.{length-drop, length-take-le}

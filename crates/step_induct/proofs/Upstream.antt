@@ -1,5 +1,5 @@
 -- The faces upstream of a block's edges stand in its arrays beside them, and both names of an edge have them.
-use Rattle.std.proofs.Common.{◌≡◌, ℕ, zero, suc, ◌+◌, ◌-◌, ◌*◌, ◌%◌, ◌^◌, ◌<◌, ◌≤◌, Bool, true, false, ◌&&◌, ◌||◌, ◌==◌, ℤ, pos, negsuc, ◌-ℤ◌, refl, sym, ap, ap₂, subst, ◌∙◌, arith, inl, inr, eq-eqb, eqb-true, lt-ltb, le-ltb, mod-eq_of_lt}
+use Rattle.std.proofs.Common.{◌≡◌, ℕ, zero, suc, ◌+◌, ◌-◌, ◌*◌, ◌%◌, ◌^◌, ◌<◌, ◌≤◌, Bool, true, false, ◌&&◌, ◌||◌, ◌==◌, ℤ, pos, negsuc, refl, sym, ap, subst, ◌∙◌, arith, inl, inr, eq-eqb, eqb-true, lt-ltb, le-ltb, mod-eq_of_lt}
 use Rattle.std.specs.Prelude.{if◌then◌else◌}
 use Rattle.std.proofs.Math.Nat.{mod_self}
 use Rattle.std.proofs.lemmas.Bool.{and_parts, cases_Bool, cases_lt}
@@ -17,14 +17,14 @@ use Rattle.mesh_model.specs.Fields.ArrayPlaces.{face_extents, face_there}
 use Rattle.mesh_model.specs.Fields.Laws.{upstream}
 use Rattle.mesh_model.specs.Geometry.Blocks.{InDomain}
 use Rattle.mesh_model.specs.Geometry.Canonical.{canonical_on}
-use Rattle.mesh_model.specs.Geometry.Coordinates.{extent, face_of, is_periodic, is_periodic_kind, next, on, roots, side_index, side_kind, step, with, wrapped}
+use Rattle.mesh_model.specs.Geometry.Coordinates.{extent, face_of, is_periodic, is_periodic_kind, next, on, side_index, side_kind, step, with, wrapped}
 use Rattle.mesh_model.specs.Geometry.Limits.{IsShape}
 use Rattle.mesh_model.specs.Geometry.Outside.{brought_in, cell_in}
 use Rattle.mesh_model.specs.Geometry.Places.{guard_index, in_block, longer_across}
 use Rattle.mesh_model.proofs.FieldLemmas.Donors.{donor_inside}
 use Rattle.mesh_model.proofs.FieldLemmas.Sums.{wrapped_inside}
 use Rattle.mesh_model.proofs.GeometryLemmas.OnAxes.{on_with}
-use Rattle.mesh_model.proofs.GeometryLemmas.ShapeLimits.{cells_some, extent_some}
+use Rattle.mesh_model.proofs.GeometryLemmas.ShapeLimits.{extent_some}
 use Rattle.step_induct.specs.Forces.{places_back}
 use Rattle.step_induct.proofs.Left.{position_inside}
 

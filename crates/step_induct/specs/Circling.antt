@@ -18,7 +18,7 @@ use Rattle.mesh_model.specs.Tree.ValidGrid.{Valid}
 use Rattle.mesh_model.specs.Fields.ArrayPlaces.{HoldsEdgeField, HoldsFaceField, HoldsFaces, IsWritten, edge_extents, face_extents, number_at, size_of}
 use Rattle.mesh_model.specs.Fields.Advect.{Speeds}
 use Rattle.mesh_model.specs.Fields.Circulation.{circulation}
-use Rattle.mesh_model.specs.Fields.FaceSplits.{by_axis, face_box}
+use Rattle.mesh_model.specs.Fields.FaceSplits.{face_box}
 use Rattle.mesh_model.specs.Fields.FinePlaces.{edges_in, faces_in}
 use Rattle.mesh_model.specs.Fields.Induct.{electromotive_force, inducted, less_circulation}
 use Rattle.step_induct.specs.declared.circling.RangeAt.{RangeAt}

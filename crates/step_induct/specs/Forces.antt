@@ -13,7 +13,7 @@ use Rattle.mesh_model.specs.Geometry.Places.{longer_across}
 use Rattle.mesh_model.specs.Geometry.Touch.{block_on}
 use Rattle.mesh_model.specs.Tree.Kinds.{Grid}
 use Rattle.mesh_model.specs.Fields.Advect.{Speeds, is_closed_kind, speed, three}
-use Rattle.mesh_model.specs.Fields.ArrayPlaces.{HoldsEdgeField, HoldsFaceGuards, IsWritten, edge_extents, face_extents, number_at, size_of}
+use Rattle.mesh_model.specs.Fields.ArrayPlaces.{HoldsEdgeField, HoldsFaceGuards, IsWritten, edge_extents, face_extents, size_of}
 use Rattle.mesh_model.specs.Fields.EdgeSplits.{edge_box}
 use Rattle.mesh_model.specs.Fields.FaceSplits.{all_faces, position}
 use Rattle.mesh_model.specs.Fields.FinePlaces.{edges_in, faces_in}

@@ -270,7 +270,8 @@ fn lessen(
     ensures { IsLessened size.n size.g axis faces.now (by_axis ex.now ey.now ez.now) out.old out.new }
 {
     let many = Extents::of_block_faces(size.n, axis);
-    for m in 0..many.y * many.z {
+    let rows = many.y * many.z;
+    for m in 0..rows {
         circle_row(size, axis, ex, ey, ez, m, out);
         take_row(size, axis, faces, m, out);
     }

@@ -227,7 +227,17 @@ fn row_of_edges(
     let j = m % many.y;
     let k = m / many.y;
     let to = place(Extents::of_edges(n, g, axis), g, g + j, g + k);
-    edge_row(size, axis, bx, by, bz, flow, j, k, &mut out[to..to + many.x]);
+    edge_row(
+        size,
+        axis,
+        bx,
+        by,
+        bz,
+        flow,
+        j,
+        k,
+        &mut out[to..to + many.x],
+    );
 }
 
 /// Sets a block's edges along an axis.

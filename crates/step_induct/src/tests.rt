@@ -119,12 +119,7 @@ fn a_circulation_is_out_of_range(rt: HostRuntime) {
 
 /// The step of the faces normal to x of such a block.
 #[tactic(auto, using(crate::proofs::Rounds::few_arrays, crate::proofs::Rounds::few_faces))]
-fn apply_along_z(
-    faces: &[i64],
-    zeros: &[i64],
-    ez: &[i64],
-    out: &mut [i64],
-) -> Result<(), RangeAt>
+fn apply_along_z(faces: &[i64], zeros: &[i64], ez: &[i64], out: &mut [i64]) -> Result<(), RangeAt>
     requires faces { length faces.now ≡ 252 }
     requires zeros { length zeros.now ≡ 294 }
     requires ez { length ez.now ≡ 294 }

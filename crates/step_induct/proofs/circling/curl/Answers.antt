@@ -1,7 +1,7 @@
-use Rattle.std.proofs.Common.{◌≡◌, sym, subst, ◌∙◌}
+use Rattle.std.proofs.Common.{◌≡◌, subst}
 use Rattle.std.specs.Prelude.{IfErr, OnOk, None, Some}
 use Rattle.mesh_model.specs.Fields.FaceSplits.{by_axis}
-use Rattle.step_induct.specs.Circling.{circled, edges_of, faces_of, first_above}
+use Rattle.step_induct.specs.Circling.{circled, edges_of, faces_of}
 use Rattle.step_induct.proofs.Held.{found_same}
 use Rattle.step_induct.proofs.circling.curl.Goals as goal
 

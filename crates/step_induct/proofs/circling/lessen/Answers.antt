@@ -1,11 +1,11 @@
-use Rattle.std.proofs.Common.{◌≡◌, ◌*◌, ◌/◌, ◌%◌, ◌+◌, ◌<◌, ◌^◌, ℤ, ◌-ℤ◌, ap, rules, subst, sym}
+use Rattle.std.proofs.Common.{◌≡◌, ◌*◌, ◌/◌, ◌%◌, ◌<◌, ◌^◌, rules, subst, sym}
 use Rattle.amr_num.specs.Numbers.{Within}
-use Rattle.amr_num.specs.declared.Axis.TheVariants.{X, Y, Z}
-use Rattle.mesh_model.specs.Fields.ArrayPlaces.{face_extents, row_of}
+use Rattle.amr_num.specs.declared.Axis.TheVariants.{Y, Z}
+use Rattle.mesh_model.specs.Fields.ArrayPlaces.{face_extents}
 use Rattle.mesh_model.specs.Fields.FaceSplits.{by_axis, face_box}
 use Rattle.mesh_model.specs.Geometry.Places.{longer_on}
 use Rattle.mesh_model.proofs.FieldLemmas.BlockPlaces.{one_more_row, row_y, row_z}
-use Rattle.step_induct.specs.Circling.{circled, edges_of, faces_of, lessened}
+use Rattle.step_induct.specs.Circling.{edges_of, faces_of, lessened}
 use Rattle.step_induct.proofs.Rounds.{circled_within, faces_fit, lessened_rows}
 use Rattle.step_induct.proofs.circling.lessen.Goals as goal
 

@@ -1,8 +1,8 @@
 use borrow.Rule.Slice.PartMut.{put_mid}
-use Rattle.std.proofs.Common.{◌≡◌, ◌+◌, ◌-◌, ◌/◌, ◌%◌, ◌<◌, ◌≤◌, ℕ, ℤ, ◌-ℤ◌, arith, ap, ap₂, drop, get_or, length, pos, subst, sym, ◌∙◌, rules, take}
+use Rattle.std.proofs.Common.{◌≡◌, ◌+◌, ◌-◌, ◌/◌, ◌%◌, ◌<◌, ◌≤◌, ℕ, ℤ, ◌-ℤ◌, arith, ap, ap₂, drop, length, pos, subst, sym, ◌∙◌, rules, take}
 use Rattle.std.proofs.lemmas.List.{get_or-drop, get_or-take, length-drop, length-take-le}
 use Rattle.amr_num.specs.Numbers.{at}
-use Rattle.amr_num.specs.declared.Axis.TheVariants.{X, Y, Z}
+use Rattle.amr_num.specs.declared.Axis.TheVariants.{X, Y}
 use Rattle.mesh_model.specs.Fields.ArrayPlaces.{IsRowWritten, face_extents, number_at, place_in, row_of}
 use Rattle.mesh_model.specs.Fields.FaceSplits.{face_box}
 use Rattle.mesh_model.specs.Geometry.Places.{longer_on}

@@ -1,6 +1,5 @@
-use Rattle.std.proofs.Common.{◌≡◌, ◌^◌, ◌<◌, ap₂, subst, sym, ◌∙◌}
+use Rattle.std.proofs.Common.{◌^◌, ◌<◌, ap₂, subst, sym, ◌∙◌}
 use Rattle.amr_num.specs.Numbers.{Within}
-use Rattle.amr_num.specs.declared.Axis.TheVariants.{X, Y, Z}
 use Rattle.mesh_model.specs.Geometry.Coordinates.{next}
 use Rattle.mesh_model.specs.Fields.Advect.{speed}
 use Rattle.mesh_model.specs.Fields.FaceSplits.{by_axis}

@@ -1,5 +1,5 @@
 use Rattle.std.proofs.Common.{◌≡◌, ◌*◌, ◌<◌, ap₂, arith, rules, subst, ◌∙◌}
-use Rattle.amr_num.specs.declared.Axis.TheVariants.{X, Y, Z}
+use Rattle.amr_num.specs.declared.Axis.TheVariants.{Y, Z}
 use Rattle.mesh_model.specs.Fields.ArrayPlaces.{AreRowsWritten, edge_extents, number_at}
 use Rattle.mesh_model.specs.Fields.EdgeSplits.{edge_box}
 use Rattle.mesh_model.specs.Fields.FaceSplits.{by_axis}

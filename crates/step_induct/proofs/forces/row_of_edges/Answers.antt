@@ -1,6 +1,6 @@
 use borrow.Rule.Slice.PartMut.{put_mid}
-use Rattle.std.proofs.Common.{◌≡◌, ◌+◌, ◌*◌, ◌-◌, ◌/◌, ◌%◌, ◌<◌, ◌≤◌, ℕ, ℤ, arith, ap, get_or, length, pos, subst, sym, ◌∙◌, rules}
-use Rattle.amr_num.specs.declared.Axis.TheVariants.{X, Y, Z}
+use Rattle.std.proofs.Common.{◌≡◌, ◌+◌, ◌-◌, ◌/◌, ◌%◌, ◌<◌, ◌≤◌, ℕ, ℤ, arith, ap, get_or, length, pos, subst, ◌∙◌, rules}
+use Rattle.amr_num.specs.declared.Axis.TheVariants.{X, Y}
 use Rattle.mesh_model.specs.Fields.ArrayPlaces.{IsRowWritten, edge_extents, place_in, row_of}
 use Rattle.mesh_model.specs.Fields.EdgeSplits.{edge_box}
 use Rattle.mesh_model.specs.Fields.FaceSplits.{by_axis}
