@@ -84,7 +84,7 @@ module _ (names : VariableNames) (w : WorldState) (outs : List ℤ) (marks : Mar
   }
     where
       SmallOn : ℕ → ℕ → Axis → Type 0
-      SmallOn m h a = (i j k : ℕ) → i < longer_across a X m → j < longer_across a Y m → k < longer_across a Z m → Within (2 ^ 56) (number_at (edge_extents m h a) (edge_array false w a node) (h + i) (h + j) (h + k))
+      SmallOn m h a = (i j k : ℕ) → i < longer_across a X m → j < longer_across a Y m → k < longer_across a Z m → Within (2 ^ 58) (number_at (edge_extents m h a) (edge_array false w a node) (h + i) (h + j) (h + k))
 
       small_on : (a : Axis) → SmallOn n g a
       small_on a =

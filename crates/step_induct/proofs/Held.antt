@@ -1,27 +1,23 @@
 -- The circulations of a field round a block's faces, and those of them that are out of range.
-use Rattle.std.proofs.Common.{◌≡◌, ℕ, suc, ◌+◌, ◌*◌, ◌^◌, ◌<◌, ◌≤◌, List, ℤ, ◌+ℤ◌, ◌-ℤ◌, Option, ap, ap₂, sym, ◌∙◌, arith, true, false, Bool, ◌&&◌, ◌==◌, mul_comm}
+use Rattle.std.proofs.Common.{◌≡◌, ℕ, suc, ◌+◌, ◌*◌, ◌^◌, ◌<◌, ◌≤◌, List, ℤ, ◌+ℤ◌, ◌-ℤ◌, Option, ap, ap₂, sym, ◌∙◌, arith, true, false, Bool}
 use Rattle.std.specs.Prelude.{if◌then◌else◌, option_map, Some, None}
 use Rattle.std.proofs.Math.Nat.{mul-le-mul_left}
 use Rattle.amr_num.specs.declared.Axis.{Axis}
 use Rattle.amr_num.specs.declared.Axis.TheVariants.{X, Y, Z}
 use Rattle.amr_num.specs.declared.BlockAt.{BlockAt}
 use Rattle.amr_num.specs.declared.EdgeAt.{EdgeAt}
-use Rattle.mesh_model.specs.declared.geometry.Shape.{Shape}
-use Rattle.mesh_model.specs.Fields.ArrayPlaces.{HoldsEdgeField, IsWritten, face_extents, number_at}
+use Rattle.mesh_model.specs.Fields.ArrayPlaces.{HoldsEdgeField, face_extents, number_at}
 use Rattle.mesh_model.specs.Fields.Circulation.{circulation}
-use Rattle.mesh_model.specs.Fields.FaceSplits.{face_box}
-use Rattle.mesh_model.specs.Fields.FinePlaces.{edges_in, faces_in}
-use Rattle.mesh_model.specs.Fields.Firsts.{first_in_places}
+use Rattle.mesh_model.specs.Fields.FinePlaces.{edges_in}
 use Rattle.mesh_model.specs.Geometry.Blocks.{InDomain}
 use Rattle.mesh_model.specs.Geometry.Canonical.{canonical_on}
-use Rattle.mesh_model.specs.Geometry.Coordinates.{edge_of, extent, face_of, is_periodic, roots, wrapped}
-use Rattle.mesh_model.specs.Geometry.Places.{in_block, longer_across, longer_on}
+use Rattle.mesh_model.specs.Geometry.Coordinates.{extent, face_of, is_periodic, wrapped}
+use Rattle.mesh_model.specs.Geometry.Places.{in_block, longer_on}
 use Rattle.mesh_model.specs.Tree.Kinds.{Grid}
-use Rattle.mesh_model.specs.Tree.ValidGrid.{Valid}
 use Rattle.mesh_model.proofs.FieldLemmas.FirstFound.{places_same}
 use Rattle.mesh_model.proofs.FieldLemmas.Sums.{wrapped_inside}
-use Rattle.step_induct.specs.Circling.{CirculationsAreHeld, IsCirculated, circled, counted, edges_of, first_above, told_above}
-use Rattle.block_store.specs.Above.{above_at, counted_face_at, first_in_faces, is_counted_face}
+use Rattle.step_induct.specs.Circling.{CirculationsAreHeld, IsCirculated, circled, counted, edges_of, faces_of, first_above, told_above}
+use Rattle.block_store.specs.Above.{counted_face_at, first_in_faces, is_counted_face}
 use Rattle.block_store.specs.declared.above.Above.{Above}
 use Rattle.block_store.specs.declared.above.CountedFaces.{CountedFaces}
 use Rattle.mesh_model.specs.Fields.RangeWalk.{is_above}
@@ -143,15 +139,27 @@ circulations_held g field a b arrays old new valid inside made holds = record {
 
 -- ---- out of range
 
+-- what is told of numbers of faces is told of those that they are
+pub found_same : (n : ℕ) (a : Axis) (sides : List Bool) (numbers wanted : ℕ → ℕ → ℕ → ℤ) → ((i j k : ℕ) → i < longer_on a X n → j < longer_on a Y n → k < longer_on a Z n → numbers i j k ≡ wanted i j k) →
+    first_above n a sides numbers ≡ first_above n a sides wanted
+found_same n a sides numbers wanted same =
+    let f = counted a sides in
+    let here : ℕ → ℕ → ℕ → ℤ → Option Above = λ i j k v. if is_counted_face n f i j k then (if is_above (2 ^ 40) v then Some (record { i = i; j = j; k = k; value = v }) else None) else None in
+    ap (option_map (told_above a))
+    (places_same (longer_on a X n) (longer_on a Y n) (longer_on a Z n) (counted_face_at n f numbers) (counted_face_at n f wanted)
+    (λ i j k hi hj hk. ap (here i j k) (same i j k hi hj hk)))
+
+-- what is found among the faces that count is told
+pub found_told : (n g : ℕ) (a : Axis) (sides : List Bool) (faces : List ℤ) (found : Option Above) (of : CountedFaces) → of ≡ counted a sides →
+    found ≡ first_in_faces (λ x y z. number_at (face_extents n g of.axis) faces (g + x) (g + y) (g + z)) n of →
+    first_above n a sides (faces_of n g a faces) ≡ option_map (told_above a) found
+found_told n g a sides faces found of is_of is =
+    ap (option_map (told_above a))
+    (sym (is ∙ ap (λ (c : CountedFaces). first_in_faces (λ x y z. number_at (face_extents n g c.axis) faces (g + x) (g + y) (g + z)) n c) is_of))
+
+-- and of circulations by what the faces have that were set to them
 pub found_circled : (n g : ℕ) (a : Axis) (sides : List Bool) (arrays : Axis → List ℤ) (old out : List ℤ) (found : Option Above) (of : CountedFaces) → of ≡ counted a sides → IsCirculated n g a arrays old out →
     found ≡ first_in_faces (λ x y z. number_at (face_extents n g of.axis) out (g + x) (g + y) (g + z)) n of →
     first_above n a sides (circled (edges_of n g arrays) a) ≡ option_map (told_above a) found
 found_circled n g a sides arrays old out found of is_of made is =
-    let f = counted a sides in
-    let found_of : found ≡ first_in_faces (λ x y z. number_at (face_extents n g a) out (g + x) (g + y) (g + z)) n f =
-    is ∙ ap (λ (c : CountedFaces). first_in_faces (λ x y z. number_at (face_extents n g c.axis) out (g + x) (g + y) (g + z)) n c) is_of in
-    let here : ℕ → ℕ → ℕ → ℤ → Option Above = λ i j k v. if is_counted_face n f i j k then (if is_above (2 ^ 40) v then Some (record { i = i; j = j; k = k; value = v }) else None) else None in
-    ap (option_map (told_above a))
-    (sym (found_of ∙ places_same (longer_on a X n) (longer_on a Y n) (longer_on a Z n)
-    (counted_face_at n f (λ x y z. number_at (face_extents n g a) out (g + x) (g + y) (g + z))) (counted_face_at n f (circled (edges_of n g arrays) a))
-    (λ i j k hi hj hk. ap (here i j k) (made.written i j k hi hj hk))))
+    sym (found_same n a sides (faces_of n g a out) (circled (edges_of n g arrays) a) made.written) ∙ found_told n g a sides out found of is_of is

@@ -1,22 +1,26 @@
 -- The circulations of a block's edges, by places.
-use Rattle.std.specs.Prelude.{◌≡◌, ℕ, ◌+◌, ◌*◌, ◌^◌, ◌<◌, Bool, false, List, length, option_map, Option, ℤ, ◌+ℤ◌, ◌-ℤ◌, slice_index_or}
+use Rattle.std.specs.Prelude.{◌≡◌, ℕ, ◌+◌, ◌*◌, ◌^◌, ◌<◌, Bool, false, true, List, length, option_map, Option, ℤ, ◌+ℤ◌, ◌-ℤ◌, slice_index_or}
 use Rattle.amr_num.specs.declared.Axis.{Axis}
 use Rattle.amr_num.specs.declared.Axis.TheVariants.{X, Y, Z}
 use Rattle.amr_num.specs.declared.BlockAt.{BlockAt}
 use Rattle.amr_num.specs.declared.EdgeAt.{EdgeAt}
+use Rattle.amr_num.specs.declared.FaceAt.{FaceAt}
 use Rattle.amr_num.specs.Numbers.{Within, at}
 use Rattle.block_store.specs.Above.{first_in_faces}
 use Rattle.block_store.specs.declared.above.Above.{Above}
 use Rattle.block_store.specs.declared.above.CountedFaces.{CountedFaces}
 use Rattle.mesh_model.specs.Geometry.Blocks.{InDomain}
-use Rattle.mesh_model.specs.Geometry.Coordinates.{axis_index, next, step}
-use Rattle.mesh_model.specs.Geometry.Places.{longer_across}
-use Rattle.mesh_model.specs.Tree.Kinds.{Grid}
+use Rattle.mesh_model.specs.Geometry.Canonical.{canonical_on}
+use Rattle.mesh_model.specs.Geometry.Coordinates.{axis_index, face_of, next, step}
+use Rattle.mesh_model.specs.Geometry.Places.{in_block, longer_across, longer_on}
+use Rattle.mesh_model.specs.Tree.Kinds.{Grid, is_leaf_face}
 use Rattle.mesh_model.specs.Tree.ValidGrid.{Valid}
-use Rattle.mesh_model.specs.Fields.ArrayPlaces.{HoldsEdgeField, HoldsFaceField, IsWritten, edge_extents, face_extents, number_at, size_of}
+use Rattle.mesh_model.specs.Fields.ArrayPlaces.{HoldsEdgeField, HoldsFaceField, HoldsFaces, IsWritten, edge_extents, face_extents, number_at, size_of}
+use Rattle.mesh_model.specs.Fields.Advect.{Speeds}
 use Rattle.mesh_model.specs.Fields.Circulation.{circulation}
-use Rattle.mesh_model.specs.Fields.FaceSplits.{by_axis, face_box}
+use Rattle.mesh_model.specs.Fields.FaceSplits.{face_box}
 use Rattle.mesh_model.specs.Fields.FinePlaces.{edges_in, faces_in}
+use Rattle.mesh_model.specs.Fields.Induct.{electromotive_force, inducted, less_circulation}
 use Rattle.step_induct.specs.declared.circling.RangeAt.{RangeAt}
 
 -- the numbers of a block's edges along each axis, by places in the block
@@ -38,11 +42,32 @@ circled e a i j k =
 -- the arrays of a block's edges along each axis, with numbers that can be added
 pub record AreEdgeArrays (n g : ℕ) (arrays : Axis → List ℤ) : Type 0 where
   pub whole : (a : Axis) → length (arrays a) ≡ size_of (edge_extents n g a)
-  pub small : (a : Axis) (i j k : ℕ) → i < longer_across a X n → j < longer_across a Y n → k < longer_across a Z n → Within (2 ^ 56) (edges_of n g arrays a i j k)
+  pub small : (a : Axis) (i j k : ℕ) → i < longer_across a X n → j < longer_across a Y n → k < longer_across a Z n → Within (2 ^ 58) (edges_of n g arrays a i j k)
 
 -- the faces of a block normal to an axis have the circulations of its edges, and the guards stay
 abbrev pub IsCirculated : ℕ → ℕ → Axis → (Axis → List ℤ) → List ℤ → List ℤ → Type 0
 IsCirculated n g a arrays old new = IsWritten (face_extents n g a) (face_box n g a) (circled (edges_of n g arrays) a) old new
+
+-- ---- what faces lose
+
+-- the numbers of a block's faces normal to an axis, by places in the block
+abbrev pub faces_of : ℕ → ℕ → Axis → List ℤ → ℕ → ℕ → ℕ → ℤ
+faces_of n g a faces i j k = number_at (face_extents n g a) faces (g + i) (g + j) (g + k)
+
+-- what is left of them without the circulations of the edges round them
+unfoldable pub lessened : (ℕ → ℕ → ℕ → ℤ) → (Axis → ℕ → ℕ → ℕ → ℤ) → Axis → ℕ → ℕ → ℕ → ℤ
+lessened faces e a i j k = faces i j k -ℤ circled e a i j k
+
+-- the array of a block's faces normal to an axis, with numbers from which circulations can be taken
+pub record IsFaceArray (n g : ℕ) (a : Axis) (faces : List ℤ) : Type 0 where
+  pub whole : length faces ≡ size_of (face_extents n g a)
+  pub small : (i j k : ℕ) → i < longer_on a X n → j < longer_on a Y n → k < longer_on a Z n → Within (2 ^ 56) (faces_of n g a faces i j k)
+
+-- the faces of a block normal to an axis have what they had in an array without the circulations of its edges, and the guards stay
+abbrev pub IsLessened : ℕ → ℕ → Axis → List ℤ → (Axis → List ℤ) → List ℤ → List ℤ → Type 0
+IsLessened n g a faces arrays old new = IsWritten (face_extents n g a) (face_box n g a) (lessened (faces_of n g a faces) (edges_of n g arrays) a) old new
+
+-- ---- range
 
 -- which of the faces normal to an axis count, by sides in the order x low, x high, y low, y high, z low, z high
 abbrev pub is_counted_side : List Bool → ℕ → Bool
@@ -55,15 +80,36 @@ counted a sides = record { axis = a; low = is_counted_side sides (2 * axis_index
 abbrev pub told_above : Axis → Above → RangeAt
 told_above a found = record { axis = a; i = found.i; j = found.j; k = found.k; value = found.value }
 
--- the first of these circulations that counts and is out of range
+-- the first of these numbers of faces that counts and is out of range
 abbrev pub first_above : ℕ → Axis → List Bool → (ℕ → ℕ → ℕ → ℤ) → Option RangeAt
 first_above n a sides faces = option_map (told_above a) (first_in_faces faces n (counted a sides))
+
+-- ---- fields
 
 -- in every valid grid the faces of a block that were made of its edges have the circulations of the field that these have
 abbrev pub CirculationsAreHeld : Type 0
 CirculationsAreHeld = (g : Grid) (field : EdgeAt → ℤ) (a : Axis) (b : BlockAt) (arrays : Axis → List ℤ) (old new : List ℤ) → Valid g → InDomain g.shape b →
     IsCirculated g.shape.n g.shape.g a arrays old new → ((c : Axis) → HoldsEdgeField g field c b (edges_in g c (arrays c))) →
     HoldsFaceField g (circulation g field) a b (faces_in g a new)
+
+-- a block has a field on the leaf faces among its faces normal to an axis; on its other faces it may have anything
+pub record HoldsLeafFaces (g : Grid) (field : FaceAt → ℤ) (a : Axis) (b : BlockAt) (numbers : ℕ → ℕ → ℕ → ℤ) : Type 0 where
+  pub at : (i j k : ℕ) → i < longer_on a X g.shape.n → j < longer_on a Y g.shape.n → k < longer_on a Z g.shape.n →
+      let f = face_of a (canonical_on g.shape a (in_block g.shape.n b i j k)) in
+      is_leaf_face g f ≡ true → numbers (g.shape.g + i) (g.shape.g + j) (g.shape.g + k) ≡ field f
+
+-- and where circulations were taken from the views of a field on faces, its leaf faces have what is left of the field
+abbrev pub LessenedAreLeft : Type 0
+LessenedAreLeft = (g : Grid) (field : FaceAt → ℤ) (views : EdgeAt → ℤ) (a : Axis) (b : BlockAt) (faces : List ℤ) (arrays : Axis → List ℤ) (old new : List ℤ) → Valid g → InDomain g.shape b →
+    IsLessened g.shape.n g.shape.g a faces arrays old new → HoldsFaces g field a b (faces_in g a faces) → ((c : Axis) → HoldsEdgeField g views c b (edges_in g c (arrays c))) →
+    HoldsLeafFaces g (less_circulation g field views) a b (faces_in g a new)
+
+-- so with electromotive forces on its edges they have what the mesh has after induct
+abbrev pub LessenedIsInducted : Type 0
+LessenedIsInducted = (g : Grid) (field : FaceAt → ℤ) (n : Speeds) (a : Axis) (b : BlockAt) (faces : List ℤ) (arrays : Axis → List ℤ) (old new : List ℤ) → Valid g → InDomain g.shape b →
+    IsLessened g.shape.n g.shape.g a faces arrays old new → HoldsFaces g field a b (faces_in g a faces) →
+    ((c : Axis) → HoldsEdgeField g (electromotive_force g field n) c b (edges_in g c (arrays c))) →
+    HoldsLeafFaces g (inducted g field n) a b (faces_in g a new)
 
 -- ---- rows
 

@@ -1,1 +1,2 @@
 pub mod Circling
+pub mod Forces

@@ -8,7 +8,7 @@ ghost use Rattle.mesh_model.specs.Geometry.Coordinates as coordinates;
 ghost use Rattle.mesh_model.specs.Geometry.Places.{longer_across, longer_on};
 ghost use Rattle.std.specs.Prelude.{◌≡◌, ℕ, ◌+◌, ◌*◌, ◌/◌, ◌%◌, ◌^◌, ◌<◌, ◌≤◌, ◌+ℤ◌, ◌-ℤ◌, IfErr, OnOk, None, Some, length};
 ghost use Rattle.step_induct.specs.Circling as circling;
-ghost use Rattle.step_induct.specs.Circling.{AreEdgeArrays, IsCirculated, circled, edges_of, first_above, round_in, told_above};
+ghost use Rattle.step_induct.specs.Circling.{AreEdgeArrays, IsCirculated, IsFaceArray, IsLessened, circled, edges_of, faces_of, first_above, lessened, round_in, told_above};
 
 use amr_num::Axis;
 use block_store::{Above, CountedFaces, Extents, PlaceAt, faces_above, place, row};
@@ -32,29 +32,29 @@ pub struct RangeAt {
 
 /// The arrays of a block of `n` cells along each axis with `g` guard cells on each side.
 #[derive(Clone, Copy)]
-struct Size {
-    n: usize,
-    g: usize,
+pub(crate) struct Size {
+    pub(crate) n: usize,
+    pub(crate) g: usize,
 }
 
 /// The sum of two numbers.
 #[inline]
 fn plus(a: i64, b: i64) -> i64
-    requires a { Within (2 ^ 56) a }
-    requires b { Within (2 ^ 56) b }
+    requires a { Within (2 ^ 58) a }
+    requires b { Within (2 ^ 58) b }
     ensures value { result ≡ a +ℤ b }
-    ensures size { Within (2 ^ 57) result }
+    ensures size { Within (2 ^ 59) result }
 {
     a + b
 }
 
 /// `a` without `b`.
 #[inline]
-fn less(a: i64, b: i64) -> i64
-    requires a { Within (2 ^ 58) a }
-    requires b { Within (2 ^ 56) b }
+pub(crate) fn less(a: i64, b: i64) -> i64
+    requires a { Within (2 ^ 60) a }
+    requires b { Within (2 ^ 60) b }
     ensures value { result ≡ a -ℤ b }
-    ensures size { Within (2 ^ 57) a → Within (2 ^ 58) result }
+    ensures size { Within (2 ^ 59) a → Within (2 ^ 58) b → Within (2 ^ 60) result }
 {
     a - b
 }
@@ -62,10 +62,10 @@ fn less(a: i64, b: i64) -> i64
 /// What flows round a face, along its edges in turn: forth along two of them, and back along the others.
 #[inline]
 fn round(first: i64, second: i64, third: i64, last: i64) -> i64
-    requires first { Within (2 ^ 56) first }
-    requires second { Within (2 ^ 56) second }
-    requires third { Within (2 ^ 56) third }
-    requires last { Within (2 ^ 56) last }
+    requires first { Within (2 ^ 58) first }
+    requires second { Within (2 ^ 58) second }
+    requires third { Within (2 ^ 58) third }
+    requires last { Within (2 ^ 58) last }
     ensures { result ≡ first +ℤ second -ℤ third -ℤ last }
 {
     less(less(plus(first, second), third), last)
@@ -76,10 +76,10 @@ fn round(first: i64, second: i64, third: i64, last: i64) -> i64
 #[inline]
 fn round_at(first: &[i64], second: &[i64], third: &[i64], last: &[i64], t: usize) -> i64
     requires inside { (t < length first.now) × (t < length second.now) × (t < length third.now) × (t < length last.now) }
-    requires first { Within (2 ^ 56) (at first.now t) }
-    requires second { Within (2 ^ 56) (at second.now t) }
-    requires third { Within (2 ^ 56) (at third.now t) }
-    requires last { Within (2 ^ 56) (at last.now t) }
+    requires first { Within (2 ^ 58) (at first.now t) }
+    requires second { Within (2 ^ 58) (at second.now t) }
+    requires third { Within (2 ^ 58) (at third.now t) }
+    requires last { Within (2 ^ 58) (at last.now t) }
     ensures { result ≡ round_in first.now second.now third.now last.now t }
 {
     round(first[t], second[t], third[t], last[t])
@@ -92,10 +92,10 @@ fn round_row(first: &[i64], second: &[i64], third: &[i64], last: &[i64], out: &m
     requires second { length second.now ≡ length out.old }
     requires third { length third.now ≡ length out.old }
     requires last { length last.now ≡ length out.old }
-    requires first_small { (t : ℕ) → t < length out.old → Within (2 ^ 56) (at first.now t) }
-    requires second_small { (t : ℕ) → t < length out.old → Within (2 ^ 56) (at second.now t) }
-    requires third_small { (t : ℕ) → t < length out.old → Within (2 ^ 56) (at third.now t) }
-    requires last_small { (t : ℕ) → t < length out.old → Within (2 ^ 56) (at last.now t) }
+    requires first_small { (t : ℕ) → t < length out.old → Within (2 ^ 58) (at first.now t) }
+    requires second_small { (t : ℕ) → t < length out.old → Within (2 ^ 58) (at second.now t) }
+    requires third_small { (t : ℕ) → t < length out.old → Within (2 ^ 58) (at third.now t) }
+    requires last_small { (t : ℕ) → t < length out.old → Within (2 ^ 58) (at last.now t) }
     ensures size { length out.new ≡ length out.old }
     ensures numbers { (t : ℕ) → t < length out.old → at out.new t ≡ round_in first.now second.now third.now last.now t }
 {
@@ -145,7 +145,7 @@ fn step(axis: Axis) -> PlaceAt
 }
 
 /// The one of three arrays that is of an axis.
-fn along<'a>(axis: Axis, ex: &'a [i64], ey: &'a [i64], ez: &'a [i64]) -> &'a [i64]
+pub(crate) fn along<'a>(axis: Axis, ex: &'a [i64], ey: &'a [i64], ez: &'a [i64]) -> &'a [i64]
     ensures { result.now ≡ by_axis ex.now ey.now ez.now axis }
 {
     match axis {
@@ -218,6 +218,65 @@ fn circle(size: Size, axis: Axis, ex: &[i64], ey: &[i64], ez: &[i64], out: &mut 
     }
 }
 
+/// Each face of a row has what it had without the number that it has now.
+#[inline]
+fn take_from(had: &[i64], out: &mut [i64])
+    requires size { length had.now ≡ length out.old }
+    requires had { (t : ℕ) → t < length out.old → Within (2 ^ 56) (at had.now t) }
+    requires taken { (t : ℕ) → t < length out.old → Within (2 ^ 60) (at out.old t) }
+    ensures size { length out.new ≡ length out.old }
+    ensures numbers { (t : ℕ) → t < length out.old → at out.new t ≡ at had.now t -ℤ at out.old t }
+{
+    for t in 0..out.len() {
+        out[t] = less(had[t], out[t]);
+    }
+}
+
+/// The same of the `m`-th row of a block's faces normal to an axis.
+fn take_row(size: Size, axis: Axis, faces: &[i64], m: usize, out: &mut [i64])
+    requires size { IsSize size.n size.g }
+    requires faces { IsFaceArray size.n size.g axis faces.now }
+    requires row { m < longer_on axis Y size.n * longer_on axis Z size.n }
+    requires out { length out.old ≡ size_of (face_extents size.n size.g axis) }
+    requires taken { (t : ℕ) → t < longer_on axis X size.n → Within (2 ^ 60) (at out.old (row_of (face_extents size.n size.g axis) (face_box size.n size.g axis) m + t)) }
+    ensures { let h = longer_on axis Y size.n in let start = row_of (face_extents size.n size.g axis) (face_box size.n size.g axis) m in
+        IsRowWritten start (longer_on axis X size.n)
+        (λ t. faces_of size.n size.g axis faces.now t (m % h) (m / h) -ℤ at out.old (start + t)) out.old out.new }
+{
+    let Size { n, g } = size;
+    let many = Extents::of_block_faces(n, axis);
+    let extents = Extents::of_faces(n, g, axis);
+    let j = m % many.y;
+    let k = m / many.y;
+    let had = row(extents, faces, g, g + j, g + k, many.x);
+    let to = place(extents, g, g + j, g + k);
+    take_from(had, &mut out[to..to + many.x]);
+}
+
+/// Sets a block's faces normal to an axis to what they have in `faces`, without the circulations of the edges round them.
+fn lessen(
+    size: Size,
+    axis: Axis,
+    faces: &[i64],
+    ex: &[i64],
+    ey: &[i64],
+    ez: &[i64],
+    out: &mut [i64],
+)
+    requires size { IsSize size.n size.g }
+    requires faces { IsFaceArray size.n size.g axis faces.now }
+    requires arrays { AreEdgeArrays size.n size.g (by_axis ex.now ey.now ez.now) }
+    requires out { length out.old ≡ size_of (face_extents size.n size.g axis) }
+    ensures { IsLessened size.n size.g axis faces.now (by_axis ex.now ey.now ez.now) out.old out.new }
+{
+    let many = Extents::of_block_faces(size.n, axis);
+    let rows = many.y * many.z;
+    for m in 0..rows {
+        circle_row(size, axis, ex, ey, ez, m, out);
+        take_row(size, axis, faces, m, out);
+    }
+}
+
 /// What is told of a face that is out of range.
 fn told(axis: Axis, found: Above) -> RangeAt
     ensures { result ≡ told_above axis found }
@@ -237,7 +296,7 @@ fn told(axis: Axis, found: Above) -> RangeAt
 ///
 /// `leaf_sides` says on which of the block's sides, in the order x low, x high, y low, y high, z low, z high, its faces are
 /// leaf faces: these and the faces inside the block are held to [`amr_num::RANGE`]. The arrays are those of blocks of `N`
-/// cells along each axis with `G` guard cells on each side, and their numbers on the block's edges are at most 2^56 in
+/// cells along each axis with `G` guard cells on each side, and their numbers on the block's edges are at most 2^58 in
 /// absolute value.
 ///
 /// # Errors
@@ -259,7 +318,47 @@ pub fn curl<const N: usize, const G: usize>(
     ensures refused { IfErr result (λ at. first_above N axis leaf_sides (circled (edges_of N G (by_axis ex.now ey.now ez.now)) axis) ≡ Some at) }
 {
     circle(Size { n: N, g: G }, axis, ex, ey, ez, out);
-    match faces_above(N, G, out, counted(axis, leaf_sides)) {
+    in_range(Size { n: N, g: G }, axis, leaf_sides, out)
+}
+
+/// Sets each face of a block normal to an axis to its number in `faces`, without the circulation of the block's edges round
+/// it, which is as [`curl`] has it. The guards of `out` stay.
+///
+/// `leaf_sides` and the arrays are as in [`curl`], and the numbers on the block's faces in `faces` are at most 2^56 in
+/// absolute value.
+///
+/// # Errors
+///
+/// The first of the leaf faces, as in [`curl`], whose new number is out of range. All faces are set all the same.
+pub fn apply<const N: usize, const G: usize>(
+    axis: Axis,
+    faces: &[i64],
+    ex: &[i64],
+    ey: &[i64],
+    ez: &[i64],
+    leaf_sides: [bool; 6],
+    out: &mut [i64],
+) -> Result<(), RangeAt>
+    requires size { IsSize N G }
+    requires faces { IsFaceArray N G axis faces.now }
+    requires arrays { AreEdgeArrays N G (by_axis ex.now ey.now ez.now) }
+    requires out { length out.old ≡ size_of (face_extents N G axis) }
+    ensures made { IsLessened N G axis faces.now (by_axis ex.now ey.now ez.now) out.old out.new }
+    ensures in_range { OnOk result (first_above N axis leaf_sides (lessened (faces_of N G axis faces.now) (edges_of N G (by_axis ex.now ey.now ez.now)) axis) ≡ None) }
+    ensures refused { IfErr result (λ at. first_above N axis leaf_sides (lessened (faces_of N G axis faces.now) (edges_of N G (by_axis ex.now ey.now ez.now)) axis) ≡ Some at) }
+{
+    lessen(Size { n: N, g: G }, axis, faces, ex, ey, ez, out);
+    in_range(Size { n: N, g: G }, axis, leaf_sides, out)
+}
+
+/// Tells of the first of a block's faces normal to an axis that is held to the range and is out of it.
+fn in_range(size: Size, axis: Axis, leaf_sides: [bool; 6], faces: &[i64]) -> Result<(), RangeAt>
+    requires size { IsSize size.n size.g }
+    requires faces { length faces.now ≡ size_of (face_extents size.n size.g axis) }
+    ensures in_range { OnOk result (first_above size.n axis leaf_sides (faces_of size.n size.g axis faces.now) ≡ None) }
+    ensures refused { IfErr result (λ at. first_above size.n axis leaf_sides (faces_of size.n size.g axis faces.now) ≡ Some at) }
+{
+    match faces_above(size.n, size.g, faces, counted(axis, leaf_sides)) {
         None => Ok(()),
         Some(found) => Err(told(axis, found)),
     }

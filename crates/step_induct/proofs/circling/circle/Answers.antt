@@ -1,5 +1,5 @@
 use Rattle.std.proofs.Common.{◌≡◌, ◌*◌, ◌<◌, rules, subst}
-use Rattle.amr_num.specs.declared.Axis.TheVariants.{X, Y, Z}
+use Rattle.amr_num.specs.declared.Axis.TheVariants.{Y, Z}
 use Rattle.mesh_model.specs.Fields.ArrayPlaces.{face_extents}
 use Rattle.mesh_model.specs.Fields.FaceSplits.{by_axis, face_box}
 use Rattle.mesh_model.specs.Geometry.Places.{longer_on}

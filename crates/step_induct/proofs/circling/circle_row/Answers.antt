@@ -1,7 +1,7 @@
 use borrow.Rule.Slice.PartMut.{put_mid}
-use Rattle.std.proofs.Common.{◌≡◌, ◌+◌, ◌*◌, ◌-◌, ◌/◌, ◌%◌, ◌<◌, ◌≤◌, ℕ, ℤ, arith, ap, drop, get_or, length, pos, subst, sym, ◌∙◌, rules, take}
+use Rattle.std.proofs.Common.{◌≡◌, ◌+◌, ◌-◌, ◌/◌, ◌%◌, ◌<◌, ◌≤◌, ℕ, ℤ, arith, ap, drop, get_or, length, pos, subst, sym, ◌∙◌, rules, take}
 use Rattle.std.proofs.lemmas.List.{length-drop, length-take-le}
-use Rattle.amr_num.specs.declared.Axis.TheVariants.{X, Y, Z}
+use Rattle.amr_num.specs.declared.Axis.TheVariants.{X, Y}
 use Rattle.mesh_model.specs.Fields.ArrayPlaces.{IsRowWritten, face_extents, place_in, row_of}
 use Rattle.mesh_model.specs.Fields.FaceSplits.{by_axis, face_box}
 use Rattle.mesh_model.specs.Geometry.Places.{longer_on}

@@ -1,4 +1,4 @@
-use Rattle.std.proofs.Common.{◌≡◌, ◌<◌, ℕ, subst, sym, ◌∙◌}
+use Rattle.std.proofs.Common.{◌<◌, subst, sym, ◌∙◌}
 use Rattle.mesh_model.specs.Fields.FaceSplits.{by_axis}
 use Rattle.step_induct.proofs.Rounds.{round_circled}
 use Rattle.step_induct.proofs.circling.face_row.Goals as goal
