@@ -12,6 +12,7 @@ use Rattle.amr_num.proofs.Sizes.{sum_within}
 use Rattle.block_tree.specs.Numbered.{block_at}
 use Rattle.block_tree.specs.declared.marks.Marks.{Marks}
 use Rattle.mesh_model.specs.declared.fields.spot.Spot.TheVariants as spots
+use Rattle.mesh_model.specs.declared.fields.values.Var.TheVariants.{Face}
 use Rattle.mesh_model.specs.declared.geometry.Shape.{Shape}
 use Rattle.mesh_model.specs.declared.language.script.Command.TheVariants.{FaceSet}
 use Rattle.mesh_model.specs.declared.run.stops.Refusal.TheVariants as refusals
@@ -106,7 +107,7 @@ module _ (names : VariableNames) (w : WorldState) (outs : List ℤ) (marks : Mar
       put_valid = keeps_validity now (FaceSet at value) valid fits put_allowed
 
       -- the world in which the copies agree
-      module _ (new : WorldState) (second : arrays.OnlyAxes Face false mid new) (holds : LeavesHoldFaces new (with_face now.faces at raw)) where
+      module _ (new : WorldState) (second : arrays.OnlyFaces false mid new) (holds : LeavesHoldFaces new (with_face now.faces at raw)) where
         only : OnlyAxes Face w new
         only = record { told = second.told ∙ first.told; others = λ u node none. second.others u node (λ a same leaf. none a same) ∙ first.others u node none }
 

@@ -46,7 +46,7 @@ print_guards-requires g c =
     let leaf : is_leaf_block (grid_of c.tree-tree.result.now) (block_at (grid_of c.tree-tree.result.now) node) ≡ true =
     subst (λ h. is_leaf_block h (block_at h node) ≡ true) grid (ap (is_leaf_block (grid_of c.tree.result.now)) c.in-Some.ensures.1.block ∙ c.in-Some.ensures.0) in
     let there = group_counted new.names new.world new.outs.items new.marks new.laid_out valid group (subst (λ (d : Declared). IsGroup d.names group) (sym c.fill_guards.ensures.declared) c.requires.group) in
-    (c.name_of-name.ensures.short, (is, (leaf, whole_there g.row.N g.row.G new.world new.fit _ c.tree-tree.ensures group there node is)))
+    record { name = c.name_of-name.ensures.short; node = is; leaf = leaf; there = whole_there g.row.N g.row.G new.world new.fit (grid_of c.tree-tree.result.now) c.tree-tree.ensures group there node is }
 
 pub returns-clause-acts : goal.returns-clause-acts
 unfolding refusal

@@ -1,4 +1,5 @@
 use Rattle.std.proofs.Common.{ap, arith, sym, ◌∙◌}
+use Rattle.block_tree.specs.GridOf.{grid_of}
 use Rattle.amr_engine.specs.EngineMesh.{mesh_of}
 use Rattle.amr_engine.proofs.Made.{grid_is, group_counted, named_now, of_now}
 use Rattle.amr_engine.proofs.Printed.{interior_there, views_there}
@@ -10,7 +11,7 @@ print_var-requires g c =
     let self = c.args.self.now in
     let valid = mesh_out (mesh_of self.names self.world self.outs.items self.marks) self.valid in
     let there = group_counted self.names self.world self.outs.items self.marks self.laid_out valid c.args.group c.requires in
-    (c.name_of-name.ensures.short, interior_there g.row.N g.row.G self.world self.fit _ c.tree.ensures c.args.group there)
+    record { name = c.name_of-name.ensures.short; there = interior_there g.row.N g.row.G self.world self.fit (grid_of c.tree.result.now) c.tree.ensures c.args.group there }
 
 pub returns : goal.returns
 returns g c =
