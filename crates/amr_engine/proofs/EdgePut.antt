@@ -33,7 +33,6 @@ use Rattle.edge_average.proofs.HalfEdges.{views_are_small}
 use Rattle.rank_world.specs.Contents.{edges_of}
 use Rattle.rank_world.specs.Holding.{IsLeafNode, IsOfMesh, LeavesHoldEdges, OnlyAxes, OnlyLeafAxes, edge_array, edge_var}
 use Rattle.rank_world.proofs.Meshes.{faces_same}
-use Rattle.step_induct.specs.Circling.{AreEdgeArrays}
 use Rattle.staggered.specs.Curling.{AreEdgesSmall, edge_arrays}
 use Rattle.staggered.specs.EdgeSetting.{IsEdgePlace, IsEdgeSet, edge_number, set_or, with_edge}
 use Rattle.amr_engine.specs.EngineMesh.{IsLaidOut, mesh_of}
