@@ -31,7 +31,8 @@ position_inside r n l b i hb hi =
     let one : n * (b + 1) ≡ n * b + n = grind arith in
     omega arith
 
-wrapped_last : (e : ℕ) → wrapped true e e ≡ 0
+-- the far end of a periodic axis is named 0
+pub wrapped_last : (e : ℕ) → wrapped true e e ≡ 0
 unfolding wrapped
 wrapped_last e = rw (eq-eqb e e refl) refl
 

@@ -1,5 +1,5 @@
 -- The faces upstream of a block's edges stand in its arrays beside them, and both names of an edge have them.
-use Rattle.std.proofs.Common.{◌≡◌, ℕ, zero, suc, ◌+◌, ◌-◌, ◌*◌, ◌%◌, ◌^◌, ◌<◌, ◌≤◌, Bool, true, false, ◌&&◌, ◌||◌, ◌==◌, ℤ, pos, negsuc, refl, sym, ap, subst, ◌∙◌, arith, inl, inr, eq-eqb, eqb-true, lt-ltb, le-ltb, mod-eq_of_lt}
+use Rattle.std.proofs.Common.{◌≡◌, ℕ, zero, suc, ◌+◌, ◌-◌, ◌*◌, ◌%◌, ◌^◌, ◌<◌, ◌≤◌, Bool, true, false, ◌&&◌, ◌||◌, ◌==◌, ℤ, pos, negsuc, refl, sym, ap, subst, ◌∙◌, arith, inl, inr, eqb-true, lt-ltb, le-ltb, mod-eq_of_lt}
 use Rattle.std.specs.Prelude.{if◌then◌else◌}
 use Rattle.std.proofs.Math.Nat.{mod_self}
 use Rattle.std.proofs.lemmas.Bool.{and_parts, cases_Bool, cases_lt}
@@ -26,7 +26,7 @@ use Rattle.mesh_model.proofs.FieldLemmas.Sums.{wrapped_inside}
 use Rattle.mesh_model.proofs.GeometryLemmas.OnAxes.{on_with}
 use Rattle.mesh_model.proofs.GeometryLemmas.ShapeLimits.{extent_some}
 use Rattle.step_induct.specs.Forces.{places_back}
-use Rattle.step_induct.proofs.Left.{position_inside}
+use Rattle.step_induct.proofs.Left.{position_inside, wrapped_last}
 
 -- ---- both names of a position
 
@@ -62,15 +62,11 @@ beside_named m periodic e p some = named_same (beside m periodic e) periodic e p
 
 -- ---- places of a block
 
--- a position of a block stands for its name
-wrapped_last : (e : ℕ) → wrapped true e e ≡ 0
-unfolding wrapped
-wrapped_last e = rw (eq-eqb e e refl) refl
-
 wrapped_plain : (e p : ℕ) → wrapped false e p ≡ p
 unfolding wrapped
 wrapped_plain e p = refl
 
+-- a position of a block stands for its name
 position_named : (periodic : Bool) (e p : ℕ) → p ≤ e → brought_in periodic e e (pos p) ≡ wrapped periodic e p
 position_named true e p le = elim (cases_lt p e) [
   | inl inside ↦ mod-eq_of_lt inside ∙ sym (wrapped_inside e p inside)

@@ -22,7 +22,7 @@ set_curl-requires g c =
           has_faces self.names self.world self.outs.items self.marks self.laid_out valid c.requires.fits.0,
           (
             has_edges self.names self.world self.outs.items self.marks self.laid_out valid c.requires.fits.1,
-            edges_small g.row.N g.row.G self.names self.world self.outs.items self.marks self.laid_out valid self.fit (has_edges self.names self.world self.outs.items self.marks self.laid_out valid c.requires.fits.1),
+            edges_small self.names self.world self.outs.items self.marks self.laid_out valid g.row.N g.row.G self.fit (has_edges self.names self.world self.outs.items self.marks self.laid_out valid c.requires.fits.1),
           ),
         ),
       ),
