@@ -484,7 +484,8 @@ edgeset z 0 1 1 0 5\nend\n",
 ];
 
 /// The face variable after a curl round one edge along z.
-const CURLED: &[u8] = b"face b x block 0 0 0 0\n0 10 0 0 0\n0 -10 0 0 0\n0 0 0 0 0\n0 0 0 0 0\n0 0 0 0 0\n0 0 0 0 0\n0 0 0 0 0\n\
+const CURLED: &[u8] =
+    b"face b x block 0 0 0 0\n0 10 0 0 0\n0 -10 0 0 0\n0 0 0 0 0\n0 0 0 0 0\n0 0 0 0 0\n0 0 0 0 0\n0 0 0 0 0\n\
 0 0 0 0 0\n0 0 0 0 0\n0 0 0 0 0\n0 0 0 0 0\n0 0 0 0 0\n0 0 0 0 0\n0 0 0 0 0\n0 0 0 0 0\n0 0 0 0 0\n\
 face b y block 0 0 0 0\n0 0 0 0\n-10 10 0 0\n0 0 0 0\n0 0 0 0\n0 0 0 0\n0 0 0 0\n0 0 0 0\n0 0 0 0\n\
 0 0 0 0\n0 0 0 0\n0 0 0 0\n0 0 0 0\n0 0 0 0\n0 0 0 0\n0 0 0 0\n0 0 0 0\n0 0 0 0\n0 0 0 0\n0 0 0 0\n\
