@@ -1,5 +1,5 @@
 -- What setting one edge of a world makes of an engine's mesh, and how great the numbers of its leaves' edges are.
-use Rattle.std.proofs.Common.{◌≡◌, ◌+◌, ◌*◌, ◌<◌, ◌^◌, ◌↔◌, Bool, true, false, ◌&&◌, List, length, ℤ, ℕ, None, refl, sym, ap, ap₂, subst, ◌∙◌, arith, if◌then◌else◌}
+use Rattle.std.proofs.Common.{◌≡◌, ◌+◌, ◌*◌, ◌<◌, ◌^◌, ◌↔◌, Bool, true, false, ◌&&◌, List, ℤ, ℕ, None, refl, sym, ap, ap₂, subst, ◌∙◌, arith, if◌then◌else◌}
 use Rattle.amr_num.specs.Numbers.{Within}
 use Rattle.amr_num.specs.declared.Axis.{Axis}
 use Rattle.amr_num.specs.declared.Axis.TheVariants.{X, Y, Z}
@@ -25,7 +25,7 @@ use Rattle.mesh_model.specs.Geometry.Places.{longer_across}
 use Rattle.mesh_model.specs.Language.Commands.{IsCommandOf}
 use Rattle.mesh_model.specs.Run.Runs.{declared_in}
 use Rattle.mesh_model.specs.Run.Stops.{or_else, refusal}
-use Rattle.mesh_model.specs.Tree.Kinds.{Grid, is_leaf_edge}
+use Rattle.mesh_model.specs.Tree.Kinds.{is_leaf_edge}
 use Rattle.mesh_model.proofs.FieldLemmas.Worlds.{has_array}
 use Rattle.mesh_model.proofs.RunLemmas.RunValid.{edge_as_is, keeps_validity}
 use Rattle.edge_average.specs.EdgeArrays.{EdgesWithin}
@@ -33,8 +33,8 @@ use Rattle.edge_average.proofs.HalfEdges.{views_are_small}
 use Rattle.rank_world.specs.Contents.{edges_of}
 use Rattle.rank_world.specs.Holding.{IsLeafNode, IsOfMesh, LeavesHoldEdges, OnlyAxes, OnlyLeafAxes, edge_array, edge_var}
 use Rattle.rank_world.proofs.Meshes.{faces_same}
-use Rattle.staggered.specs.Curling.{AreEdgesSmall, edge_arrays}
-use Rattle.staggered.specs.EdgeSetting.{IsEdgePlace, IsEdgeSet, edge_number, set_or, with_edge}
+use Rattle.staggered.specs.Curling.{AreEdgesSmall}
+use Rattle.staggered.specs.EdgeSetting.{IsEdgePlace, IsEdgeSet, edge_number, with_edge}
 use Rattle.amr_engine.specs.EngineMesh.{IsLaidOut, mesh_of}
 use Rattle.amr_engine.specs.Stopping.{MayStop, stopped_by}
 use Rattle.amr_engine.specs.declared.cause.Cause.TheVariants.{Place}

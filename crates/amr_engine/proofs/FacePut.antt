@@ -1,19 +1,15 @@
 -- What setting one face of a world makes of an engine's mesh.
-use Rattle.std.proofs.Common.{◌≡◌, ◌<◌, ◌^◌, Bool, true, false, ◌&&◌, not, ◌||◌, ◌==◌, List, ℤ, ℕ, None, refl, sym, ap, ap₂, subst, ◌∙◌, arith, ne_eqb, if◌then◌else◌}
-use Rattle.std.specs.Prelude.{nat_lt}
-use Rattle.std.proofs.lemmas.Bool.{ltb-true}
+use Rattle.std.proofs.Common.{◌≡◌, ◌<◌, ◌^◌, Bool, true, false, ◌&&◌, List, ℤ, ℕ, None, refl, sym, ap, ap₂, subst, ◌∙◌, arith, if◌then◌else◌}
 use Rattle.amr_num.specs.Numbers.{Within, sum_below}
 use Rattle.amr_num.specs.declared.Axis.{Axis}
 use Rattle.amr_num.specs.declared.Axis.TheVariants.{X, Y, Z}
 use Rattle.amr_num.specs.declared.BlockAt.{BlockAt}
-use Rattle.amr_num.specs.declared.CellAt.{CellAt}
 use Rattle.amr_num.specs.declared.FaceAt.{FaceAt}
 use Rattle.amr_num.proofs.Sizes.{sum_within}
 use Rattle.block_tree.specs.Numbered.{block_at}
 use Rattle.block_tree.specs.declared.marks.Marks.{Marks}
 use Rattle.mesh_model.specs.declared.fields.spot.Spot.TheVariants as spots
 use Rattle.mesh_model.specs.declared.fields.values.Var.TheVariants.{Face}
-use Rattle.mesh_model.specs.declared.geometry.Shape.{Shape}
 use Rattle.mesh_model.specs.declared.language.script.Command.TheVariants.{FaceSet}
 use Rattle.mesh_model.specs.declared.run.stops.Refusal.TheVariants as refusals
 use Rattle.mesh_model.specs.Fields.Plain.{Mesh}
@@ -23,8 +19,8 @@ use Rattle.mesh_model.specs.Fields.Setting.{set_face}
 use Rattle.mesh_model.specs.Fields.Valid.{ValidMesh}
 use Rattle.mesh_model.specs.Fields.VariableNames.{VariableNames}
 use Rattle.mesh_model.specs.Fields.Views.{face_view}
-use Rattle.mesh_model.specs.Geometry.Canonical.{canonical_face, canonical_on, is_canonical, is_canonical_at}
-use Rattle.mesh_model.specs.Geometry.Coordinates.{extent, face_numbers, face_of, is_periodic, is_same_face, on, sub_face, with, wrapped}
+use Rattle.mesh_model.specs.Geometry.Canonical.{canonical_face, canonical_on, is_canonical}
+use Rattle.mesh_model.specs.Geometry.Coordinates.{face_of, is_same_face, sub_face}
 use Rattle.mesh_model.specs.Geometry.Places.{in_block, longer_on}
 use Rattle.mesh_model.specs.Language.Commands.{IsCommandOf}
 use Rattle.mesh_model.specs.Run.Stops.{or_else, refusal}

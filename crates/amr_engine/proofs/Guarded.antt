@@ -9,7 +9,7 @@ use Rattle.mesh_model.specs.Fields.Plain.{Mesh}
 use Rattle.mesh_model.specs.Fields.Ranks.{Told, WorldState}
 use Rattle.block_tree.specs.Numbered.{block_at}
 use Rattle.guard_fill.specs.Guarding.{HasMesh, OnlyGuardAxes, OnlyGuardsOf}
-use Rattle.guard_fill.specs.Restricting.{OnlyParentAxes, OnlyParentsOf}
+use Rattle.guard_fill.specs.Restricting.{OnlyParentsOf}
 use Rattle.rank_world.specs.Holding.{IsLeafNode, IsOfMesh, IsOfValidMesh, LeavesHoldEdges, LeavesHoldFaces, edge_array, face_array}
 use Rattle.rank_world.proofs.Meshes.{edges_same, faces_same, mesh_kept}
 use Rattle.amr_engine.proofs.Filled.{holds_same}

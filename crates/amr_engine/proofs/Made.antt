@@ -1,5 +1,5 @@
 -- What the operations of an engine make of its mesh.
-use Rattle.std.proofs.Common.{◌≡◌, ◌≢◌, ℕ, ◌<◌, ◌≤◌, ◌^◌, Bool, true, false, ◌==◌, List, [], Option, Some, None, IsSome, Result, Ok, Err, IsErr, IfErr, OnErr, OnOk, length, get_or, ℤ, pos, refl, sym, ap, ap₂, subst, ◌∙◌, arith, inl, inr, eq-eqb, eqb-true}
+use Rattle.std.proofs.Common.{◌≡◌, ◌≢◌, ℕ, ◌<◌, ◌≤◌, ◌^◌, Bool, true, false, ◌==◌, List, Option, Some, None, IsSome, Result, Ok, Err, IsErr, IfErr, OnErr, OnOk, length, get_or, ℤ, pos, refl, sym, ap, ap₂, subst, ◌∙◌, arith, inl, inr, eq-eqb, eqb-true}
 use Rattle.std.specs.Prelude.{◌↔◌, if◌then◌else◌, ◌&&◌, ◌||◌, nat_lt, not}
 use Rattle.std.specs.Option.{option_map}
 use Rattle.std.proofs.lemmas.Bool.{cases_Bool, cases_lt, le-leb}

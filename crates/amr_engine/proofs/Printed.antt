@@ -1,5 +1,5 @@
 -- What is printed of a world is what its mesh has.
-use Rattle.std.proofs.Common.{◌≡◌, ℕ, ◌+◌, ◌*◌, ◌<◌, false, true, List, IsSome, length, ℤ, ◌-ℤ◌, pos, sym, ap, ap₂, subst, ◌∙◌, arith}
+use Rattle.std.proofs.Common.{◌≡◌, ℕ, ◌+◌, ◌*◌, ◌<◌, false, true, List, ℤ, ◌-ℤ◌, pos, sym, ap, ap₂, subst, ◌∙◌, arith}
 use Rattle.std.proofs.lemmas.Int.{ints}
 use Rattle.block_tree.specs.Numbered.{IsNode, block_at}
 use Rattle.amr_num.specs.declared.Axis.{Axis}

@@ -14,12 +14,12 @@ ghost use Rattle.rank_world.specs.Holding.{OnlyCells};
 ghost use Rattle.rank_world.specs.Writing.{IsLeafArray};
 ghost use Rattle.std.specs.Prelude.{◌≡◌, ℕ, ◌+◌, ◌*◌, ◌/◌, ◌%◌, ◌<◌, ◌≤◌, ◌^◌, length, if◌then◌else◌};
 
-use staggered::cells::cell_in;
 use crate::region::{Fill, covers};
 use amr_num::BlockAt;
 use block_store::{Extents, place};
 use mesh_model::Var;
 use rank_world::World;
+use staggered::cells::cell_in;
 
 /// Each cell of a row of a block takes the value where the region covers it. The row stands at the places j and k.
 fn fill_row(row: &mut [i64], block: BlockAt, j: u32, k: u32, fill: Fill)

@@ -26,7 +26,6 @@ ghost use Rattle.std.specs.Prelude.{◌≡◌, ◌<◌, ◌≤◌, ◌^◌, ◌&
 ghost use Rattle.step_advect.specs.Applied.{AreInRange, IsApplied, first_out, flows_in, left_at, out_through};
 ghost use Rattle.step_advect.specs.Lifts.{AreOuterSides, is_at_high_side, is_at_low_side};
 
-use staggered::cells::cell_in;
 use crate::flowing::flux_along;
 use crate::hindrance::Above;
 use amr_num::{Axis, BlockAt};
@@ -36,6 +35,7 @@ use flux_conserve::is_at_jump;
 use mesh_model::geometry::axes::{block_on, is_periodic, roots};
 use mesh_model::{Shape, Var};
 use rank_world::World;
+use staggered::cells::cell_in;
 use step_advect::{RangeAt, apply};
 
 /// The most faces normal to an axis that a block's array has: those of 8 cells with 4 guard cells on each side.

@@ -1,9 +1,6 @@
 use Rattle.std.proofs.Common.{◌≡◌, arith, sym, subst, ◌∙◌}
-use Rattle.mesh_model.specs.declared.fields.values.Group.{Group}
-use Rattle.mesh_model.specs.declared.fields.values.Group.TheVariants.{Cell, Edge, Face}
-use Rattle.mesh_model.specs.Fields.Ranks.{Told, WorldState}
+use Rattle.mesh_model.specs.Fields.Ranks.{Told}
 use Rattle.mesh_model.specs.Fields.Valid.{ValidMesh}
-use Rattle.guard_fill.specs.Guarding.{HasMesh}
 use Rattle.guard_fill.specs.Restricting.{IsGroupOf}
 use Rattle.rank_world.specs.Holding.{IsOfMesh, IsOfValidMesh}
 use Rattle.amr_engine.specs.EngineMesh.{mesh_of}

@@ -5,7 +5,7 @@ use Rattle.rank_world.specs.Holding.{IsOfMesh}
 use Rattle.amr_engine.specs.EngineMesh.{mesh_of}
 use Rattle.amr_engine.specs.Stopping.{MayStop, stopped_by}
 use Rattle.amr_engine.proofs.FacesMade.{even, faces_alone, if_error, set_allowed, set_is, set_kept, set_refused, uniform_fits, uniform_made, uniform_refused}
-use Rattle.amr_engine.proofs.Made.{has_faces, of_now, same_mesh}
+use Rattle.amr_engine.proofs.Made.{has_faces, of_now}
 use Rattle.amr_engine.proofs.ValidOut.{mesh_out}
 use Rattle.amr_engine.proofs.engine.Engine.uniform.Goals as goal
 
