@@ -245,7 +245,7 @@ came_stopped s by.Sink line result a b c f g h stops ends =
 
 pub built_lines : (s : PlainScript) → is_built s 1 1 ≡ true → All IsBuiltLine s.lines
 unfolding is_built
-built_lines s h = each s.lines (and_parts _ _ h).1
+built_lines s h = each s.lines (and_parts true _ h).1
   where
     each : (lines : List Line) → list_all (λ line. is_built_command line.command) lines ≡ true → All IsBuiltLine lines
     each [] all = All-nil IsBuiltLine

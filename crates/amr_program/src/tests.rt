@@ -512,7 +512,7 @@ const GUARDED: [(&[u8], &[u8]); 2] = [
 0 0 0 0 0 0 0\n0 0 0 0 0 0 0\n0 0 0 0 0 0 0\n0 0 5 0 0 0 5\n0 0 0 0 0 0 0\n0 0 0 0 0 0 0\n0 0 0 0 0 0 0\n\
 0 0 5 0 0 0 5\n0 0 0 0 0 0 0\n",
     ),
-    // Across an edge there are positions: that at 0 stands at 4 again, and the one before position 1 at position 5.
+    // Across an edge numbers stand at positions: what stands at position 1 on y stands at position 5 again.
     (
         b"domain 1 1 1\ncells 4 1\nlevels 0 0\nedgevar e\nedgeset x 0 1 1 0 7\nprint guards e 0 0 0 0\nend\n",
         b"guards e x block 0 0 0 0\n0 0 0 0 0 0\n0 0 0 0 0 0\n0 0 0 0 0 0\n0 0 0 0 0 0\n0 0 0 0 0 0\n\
