@@ -504,7 +504,7 @@ fn edges_go_with_the_mesh(rt: HostRuntime) -> Result<(), Fail> {
 }
 
 /// Scripts that print the guards of a block which is its own neighbour on all sides, and how what they print begins.
-const GUARDED: [(&[u8], &[u8]); 2] = [
+const WRAPPED: [(&[u8], &[u8]); 2] = [
     // The face at position 1 stands at position 5 again, where the domain begins anew, and in the guards on y and z.
     (
         b"domain 1 1 1\ncells 4 1\nlevels 0 0\nfacevar b\nfaceset x 0 1 0 0 5\nprint guards b 0 0 0 0\nend\n",
@@ -523,7 +523,7 @@ const GUARDED: [(&[u8], &[u8]); 2] = [
 
 #[test]
 fn guards_of_faces_and_edges_go_round(rt: HostRuntime) -> Result<(), Fail> {
-    for (script, begins) in GUARDED {
+    for (script, begins) in WRAPPED {
         let (status, sink) = run(rt.alloc(), &[], script, QUIET)?;
         assert_eq!(rt; status, Status::Done);
         assert!(rt; sink.taken().starts_with(begins));
