@@ -18,12 +18,12 @@ use Rattle.mesh_model.specs.Run.Stops.{refusal}
 use Rattle.mesh_model.proofs.RunLemmas.RunValid.{keeps_validity}
 use Rattle.rank_world.specs.Holding.{IsOfValidMesh}
 use Rattle.amr_engine.specs.EngineMesh.{IsLaidOut, mesh_of}
-use Rattle.amr_engine.specs.Stepping.{Steps}
+use Rattle.mesh_steps.specs.Stepping.{Steps}
 use Rattle.amr_engine.specs.Stopping.{Changes, cause_told}
-use Rattle.amr_engine.specs.declared.hindrance.Hindrance.{Hindrance}
-use Rattle.amr_engine.specs.declared.hindrance.Hindrance.TheVariants.{Content, FlowedOut, TooFast}
-use Rattle.amr_engine.proofs.Advected.{content_refused, not_refused, out_refused, outs_set, too_fast}
-use Rattle.amr_engine.proofs.Machine.{kept_128, wide}
+use Rattle.mesh_steps.specs.declared.hindrance.Hindrance.{Hindrance}
+use Rattle.mesh_steps.specs.declared.hindrance.Hindrance.TheVariants.{Content, FlowedOut, TooFast}
+use Rattle.mesh_steps.proofs.Advected.{content_refused, not_refused, out_refused, outs_set, too_fast}
+use Rattle.mesh_steps.proofs.Machine.{kept_128, wide}
 use Rattle.amr_engine.proofs.Made.{laid_after, of_now, out_now, out_small, same_mesh}
 use Rattle.amr_engine.proofs.Shown.{mesh_shown}
 

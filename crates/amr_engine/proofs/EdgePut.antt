@@ -2,7 +2,6 @@
 use Rattle.std.proofs.Common.{◌≡◌, ◌+◌, ◌*◌, ◌<◌, ◌^◌, ◌↔◌, Bool, true, false, ◌&&◌, List, ℤ, ℕ, None, refl, sym, ap, ap₂, subst, ◌∙◌, arith, if◌then◌else◌}
 use Rattle.amr_num.specs.Numbers.{Within}
 use Rattle.amr_num.specs.declared.Axis.{Axis}
-use Rattle.amr_num.specs.declared.Axis.TheVariants.{X, Y, Z}
 use Rattle.amr_num.specs.declared.EdgeAt.{EdgeAt}
 use Rattle.block_tree.specs.Directions.{edge_name}
 use Rattle.block_tree.specs.Marked.{derefine_of, refine_of}
@@ -12,7 +11,6 @@ use Rattle.mesh_model.specs.declared.fields.spot.Spot.TheVariants as spots
 use Rattle.mesh_model.specs.declared.fields.values.Var.TheVariants.{Cell, Edge, Face}
 use Rattle.mesh_model.specs.declared.language.script.Command.TheVariants.{EdgeSet}
 use Rattle.mesh_model.specs.declared.run.stops.Refusal.TheVariants as refusals
-use Rattle.mesh_model.specs.Fields.ArrayPlaces.{edge_extents, number_at}
 use Rattle.mesh_model.specs.Fields.Plain.{Mesh}
 use Rattle.mesh_model.specs.Fields.Ranks.{IsFit, Told, WorldState}
 use Rattle.mesh_model.specs.Fields.Setting.{set_edge}
@@ -21,24 +19,22 @@ use Rattle.mesh_model.specs.Fields.VariableNames.{VariableNames}
 use Rattle.mesh_model.specs.Fields.Views.{edge_view}
 use Rattle.mesh_model.specs.Geometry.Canonical.{canonical_edge, is_canonical_edge}
 use Rattle.mesh_model.specs.Geometry.Coordinates.{is_same_edge}
-use Rattle.mesh_model.specs.Geometry.Places.{longer_across}
 use Rattle.mesh_model.specs.Language.Commands.{IsCommandOf}
 use Rattle.mesh_model.specs.Run.Runs.{declared_in}
 use Rattle.mesh_model.specs.Run.Stops.{or_else, refusal}
 use Rattle.mesh_model.specs.Tree.Kinds.{is_leaf_edge}
-use Rattle.mesh_model.proofs.FieldLemmas.Worlds.{has_array}
 use Rattle.mesh_model.proofs.RunLemmas.RunValid.{edge_as_is, keeps_validity}
 use Rattle.edge_average.specs.EdgeArrays.{EdgesWithin}
 use Rattle.edge_average.proofs.HalfEdges.{views_are_small}
 use Rattle.rank_world.specs.Contents.{edges_of}
-use Rattle.rank_world.specs.Holding.{IsLeafNode, IsOfMesh, LeavesHoldEdges, OnlyAxes, OnlyLeafAxes, edge_array, edge_var}
-use Rattle.rank_world.proofs.Meshes.{faces_same}
-use Rattle.staggered.specs.Curling.{AreEdgesSmall}
+use Rattle.rank_world.specs.Holding.{IsLeafNode, IsOfMesh, LeavesHoldEdges, OnlyAxes, OnlyLeafAxes, edge_var}
+use Rattle.rank_world.proofs.Meshes.{faces_same, holds_same}
+use Rattle.mesh_steps.specs.Circulations.{AreEdgesSmall}
+use Rattle.mesh_steps.proofs.SmallArrays.{leaves_added}
 use Rattle.staggered.specs.EdgeSetting.{IsEdgePlace, IsEdgeSet, edge_number, with_edge}
 use Rattle.amr_engine.specs.EngineMesh.{IsLaidOut, mesh_of}
 use Rattle.amr_engine.specs.Stopping.{MayStop, stopped_by}
 use Rattle.amr_engine.specs.declared.cause.Cause.TheVariants.{Place}
-use Rattle.amr_engine.proofs.Filled.{holds_same}
 use Rattle.amr_engine.proofs.Made.{edges_now, has_edges, laid_after, of_now, tree_now}
 use Rattle.amr_engine.proofs.Shown.{mesh_shown}
 
@@ -69,26 +65,9 @@ module _ (names : VariableNames) (w : WorldState) (outs : List ℤ) (marks : Mar
       subst (Within (2 ^ 41)) (sym ((edges_now names w outs marks laid valid some node leaf a).at i j k place.x place.y place.z)) (omega (arith, view))
 
   pub edges_small : (n g : ℕ) → IsFit n g w → 0 < w.told.counts.edges → AreEdgesSmall n g w
-  edges_small n g fit some node leaf = record {
-    whole = elim [
-      | X ↦ fit.whole.each (Edge X) node (has_array n g w (Edge X) node fit leaf.there some)
-      | Y ↦ fit.whole.each (Edge Y) node (has_array n g w (Edge Y) node fit leaf.there some)
-      | Z ↦ fit.whole.each (Edge Z) node (has_array n g w (Edge Z) node fit leaf.there some)
-    ];
-    small = elim [
-      | X ↦ small_on X
-      | Y ↦ small_on Y
-      | Z ↦ small_on Z
-    ];
-  }
-    where
-      SmallOn : ℕ → ℕ → Axis → Type 0
-      SmallOn m h a = (i j k : ℕ) → i < longer_across a X m → j < longer_across a Y m → k < longer_across a Z m → Within (2 ^ 58) (number_at (edge_extents m h a) (edge_array false w a node) (h + i) (h + j) (h + k))
-
-      small_on : (a : Axis) → SmallOn n g a
-      small_on a =
-          subst (λ m. SmallOn m g a) fit.sizes.cells (subst (λ h. SmallOn w.told.grid.shape.n h a) fit.sizes.guards
-          (λ i j k hi hj hk. let small = leaf_within some node a i j k leaf (record { x = hi; y = hj; z = hk }) in omega (arith, small)))
+  edges_small n g fit some = leaves_added n g w fit some (λ node a leaf. record {
+    at = λ i j k hi hj hk. let small = leaf_within some node a i j k leaf (record { x = hi; y = hj; z = hk }) in omega (arith, small);
+  })
 
   -- ---- one edge that is set
 

@@ -30,13 +30,14 @@ use Rattle.mesh_model.proofs.RunLemmas.RunValid.{face_as_is, keeps_validity}
 use Rattle.flux_conserve.specs.FaceArrays as arrays
 use Rattle.flux_conserve.specs.Jumps.{face_name}
 use Rattle.flux_conserve.proofs.Fields.{by_spot, view_jumped}
-use Rattle.rank_world.specs.Holding.{IsLeafNode, LeavesHoldFaces, OnlyAxes}
+use Rattle.rank_world.specs.Holding.{IsLeafNode, IsOfMesh, LeavesHoldFaces, OnlyAxes}
 use Rattle.amr_engine.specs.EngineMesh.{IsLaidOut, mesh_of}
 use Rattle.staggered.specs.Setting.{IsFaceSet, IsPlace, name_at, number_of, with_face}
 use Rattle.amr_engine.specs.Stopping.{MayStop, stopped_by}
 use Rattle.amr_engine.specs.declared.cause.Cause.TheVariants.{Place}
-use Rattle.amr_engine.proofs.FacesMade.{faces_alone, faces_laid, faces_made}
+use Rattle.amr_engine.proofs.FacesMade.{faces_alone, faces_laid, faces_made, faces_world}
 use Rattle.amr_engine.proofs.Made.{has_faces, of_now}
+use Rattle.mesh_model.specs.Fields.Induct.{with_faces}
 
 -- ---- the numbers of a leaf's faces are small
 
@@ -114,10 +115,13 @@ module _ (names : VariableNames) (w : WorldState) (outs : List ℤ) (marks : Mar
         set_holds : LeavesHoldFaces new set_field
         set_holds = subst (LeavesHoldFaces new) field_is holds
 
+        set_world : IsOfMesh new (with_faces now set_field)
+        set_world = faces_world names w outs marks laid valid new set_field (faces_alone w new only) set_holds
+
         pub put_is : mesh_of names new outs marks ≡ set_face now at value
         unfolding set_face
-        put_is = faces_made names w outs marks laid valid new set_field (faces_alone w new only) set_holds put_valid
+        put_is = faces_made names w outs marks laid valid new set_field only.told set_world put_valid
 
         pub put_laid : IsLaidOut names new outs marks
         unfolding set_face
-        put_laid = faces_laid names w outs marks laid valid new set_field (faces_alone w new only) set_holds put_valid
+        put_laid = faces_laid names w outs marks laid valid new set_field only.told set_world put_valid

@@ -1,18 +1,18 @@
--- What setting the faces of a world makes of an engine's mesh: to a uniform field, or to the circulations of its edges.
-use Rattle.std.proofs.Common.{◌≡◌, ◌<◌, ◌^◌, List, Option, Some, None, IsSome, Result, Ok, Err, OnOk, IfErr, ℤ, refl, sym, ap, subst, ◌∙◌}
-use Rattle.std.specs.Prelude.{◌↔◌, find, ◌&&◌}
+-- What new faces of a world make of an engine's mesh: a uniform field, the circulations of its edges, or what a step leaves.
+use Rattle.std.proofs.Common.{◌≡◌, ◌<◌, ◌^◌, true, false, List, Option, Some, None, IsSome, Result, Ok, Err, OnOk, IfErr, ℤ, refl, sym, ap, subst, ◌∙◌}
+use Rattle.std.specs.Prelude.{find, ◌&&◌}
 use Rattle.std.specs.Option.{option_map}
 use Rattle.amr_num.specs.declared.FaceAt.{FaceAt}
 use Rattle.block_tree.specs.Marked.{derefine_of, refine_of}
 use Rattle.block_tree.specs.declared.marks.Marks.{Marks}
 use Rattle.mesh_model.specs.declared.fields.spot.Spot.TheVariants as spots
 use Rattle.mesh_model.specs.declared.fields.values.Group.TheVariants as groups
-use Rattle.mesh_model.specs.declared.fields.values.Var.TheVariants.{Cell, Edge, Face, FaceWork}
+use Rattle.mesh_model.specs.declared.fields.values.Var.TheVariants.{Face, FaceWork}
 use Rattle.mesh_model.specs.declared.language.script.Command.{Command}
-use Rattle.mesh_model.specs.declared.language.script.Command.TheVariants.{Curl, Uniform}
+use Rattle.mesh_model.specs.declared.language.script.Command.TheVariants.{Curl, Induct, Uniform}
 use Rattle.mesh_model.specs.declared.run.stops.Refusal.TheVariants as refusals
-use Rattle.mesh_model.specs.Fields.Advect.{three}
-use Rattle.mesh_model.specs.Fields.Induct.{curled, uniform_faces, with_faces}
+use Rattle.mesh_model.specs.Fields.Advect.{keeps_courant, three}
+use Rattle.mesh_model.specs.Fields.Induct.{curled, inducted, uniform_faces, with_faces}
 use Rattle.mesh_model.specs.Fields.Plain.{Mesh}
 use Rattle.mesh_model.specs.Fields.RangeWalk.{face_above, faces_walked, is_above}
 use Rattle.mesh_model.specs.Fields.Ranks.{Told, WorldState}
@@ -23,16 +23,18 @@ use Rattle.mesh_model.specs.Run.Runs.{declared_in, mesh_after}
 use Rattle.mesh_model.specs.Run.Stops.{range_of, refusal}
 use Rattle.mesh_model.specs.Tree.Kinds.{is_leaf_face}
 use Rattle.mesh_model.proofs.RunLemmas.RunValid.{keeps_validity}
-use Rattle.rank_world.specs.Holding.{IsLeafNode, IsOfMesh, LeavesHoldFaces, OnlyAxes}
+use Rattle.rank_world.specs.Holding.{IsOfMesh, LeavesHoldFaces, OnlyAxes}
 use Rattle.rank_world.specs.declared.faces.FaceAbove.{FaceAbove}
-use Rattle.rank_world.proofs.Meshes.{edges_same, faces_same, mesh_kept}
 use Rattle.amr_engine.specs.EngineMesh.{IsLaidOut, mesh_of}
-use Rattle.rank_world.specs.Contents.{edges_of}
-use Rattle.staggered.specs.Curling.{OnlyFacesAndWork}
+use Rattle.rank_world.specs.Contents.{edges_of, faces_of}
+use Rattle.mesh_steps.specs.Circulations.{OnlyFacesAndWork}
+use Rattle.mesh_steps.specs.Inducting.{Inducts}
+use Rattle.mesh_steps.specs.declared.hindrance.FaceHindrance.{FaceHindrance}
+use Rattle.mesh_steps.specs.declared.hindrance.FaceHindrance.TheVariants.{Number, TooFast}
+use Rattle.mesh_steps.proofs.MeshSet.{axes_stay, faces_set, work_faces}
 use Rattle.staggered.specs.Facing.{face_told, walked_above}
-use Rattle.amr_engine.specs.Stopping.{MayStop, cause_of_faces, stopped_by}
+use Rattle.amr_engine.specs.Stopping.{Changes, MayStop, cause_of_faces, cause_of_induct, stopped_by}
 use Rattle.amr_engine.proofs.FaceStops.{faces_excess}
-use Rattle.amr_engine.proofs.Filled.{holds_same}
 use Rattle.amr_engine.proofs.Made.{laid_after, laid_same, of_now, same_mesh}
 use Rattle.amr_engine.proofs.Shown.{mesh_shown}
 
@@ -64,44 +66,26 @@ module _ (names : VariableNames) (w : WorldState) (outs : List ℤ) (marks : Mar
   now = mesh_of names w outs marks
 
   -- a world of which the faces alone were set is that of the mesh with these numbers on its faces
-  module _ (new : WorldState) (k : FaceAt → ℤ) (only : OnlyFacesAndWork w new) (holds : LeavesHoldFaces new k) where
-    pub faces_world : IsOfMesh new (with_faces now k)
-    faces_world =
-        let of = of_now names w outs marks laid valid in
-        record {
-          grid = ap (λ (t : Told). t.grid) only.told ∙ of.grid;
-          cells = ap (λ (t : Told). t.counts.cells) only.told ∙ of.cells;
-          faces = subst (λ (t : Told). (t.counts.faces ≡ 0) ↔ (now.names.face ≡ None)) (sym only.told) of.faces;
-          edges = subst (λ (t : Told). (t.counts.edges ≡ 0) ↔ (now.names.edge ≡ None)) (sym only.told) of.edges;
-          contents = λ v below node leaf.
-              holds_same w new v node (now.cells v) only.told (only.others (Cell v) node (λ a is. absurd cc) (λ a is. absurd cc))
-              (of.contents v (subst (λ (t : Told). v < t.counts.cells) only.told below) node (subst (λ (t : Told). IsLeafNode t.grid node) only.told leaf));
-          on_faces = λ some. holds;
-          on_edges = λ some.
-              edges_same w new now.edges only.told (λ x node leaf. only.others (Edge x) node (λ a is. absurd cc) (λ a is. absurd cc)) (of.on_edges (subst (λ (t : Told). 0 < t.counts.edges) only.told some));
-        }
+  pub faces_world : (new : WorldState) (k : FaceAt → ℤ) → OnlyFacesAndWork w new → LeavesHoldFaces new k → IsOfMesh new (with_faces now k)
+  faces_world new k only holds = faces_set w new now k (of_now names w outs marks laid valid) only holds
 
-    module _ (after : ValidMesh (with_faces now k)) where
-      pub faces_made : mesh_of names new outs marks ≡ with_faces now k
-      unfolding mesh_of
-      faces_made =
-          mesh_shown names new outs marks (with_faces now k) faces_world after refl (λ v. refl)
-          (λ b. ap (λ (t : Told). refine_of t.grid marks b) only.told) (λ b. ap (λ (t : Told). derefine_of t.grid marks b) only.told)
+  -- and a world of that mesh is the engine's
+  module _ (new : WorldState) (k : FaceAt → ℤ) (told : new.told ≡ w.told) (world : IsOfMesh new (with_faces now k)) (after : ValidMesh (with_faces now k)) where
+    pub faces_made : mesh_of names new outs marks ≡ with_faces now k
+    unfolding mesh_of
+    faces_made =
+        mesh_shown names new outs marks (with_faces now k) world after refl (λ v. refl)
+        (λ b. ap (λ (t : Told). refine_of t.grid marks b) told) (λ b. ap (λ (t : Told). derefine_of t.grid marks b) told)
 
-      pub faces_laid : IsLaidOut names new outs marks
-      unfolding mesh_of
-      faces_laid = laid_after names w outs marks laid valid new outs (with_faces now k) only.told faces_world after refl laid.flowed
+    pub faces_laid : IsLaidOut names new outs marks
+    unfolding mesh_of
+    faces_laid = laid_after names w outs marks laid valid new outs (with_faces now k) told world after refl laid.flowed
 
   -- a world of which work faces alone changed is that of the mesh still
   pub work_faces_stay : (new : WorldState) → OnlyAxes FaceWork w new → IsOfMesh new now
-  work_faces_stay new only =
-      mesh_kept w new now only.told
-      (λ v below holds node leaf. holds_same w new v node (now.cells v) only.told (only.others (Cell v) node (λ a is. absurd cc)) (holds node (subst (λ (t : Told). IsLeafNode t.grid node) only.told leaf)))
-      (faces_same w new now.faces only.told (λ x node leaf. only.others (Face x) node (λ a is. absurd cc)))
-      (edges_same w new now.edges only.told (λ x node leaf. only.others (Edge x) node (λ a is. absurd cc)))
-      (of_now names w outs marks laid valid)
+  work_faces_stay new only = axes_stay FaceWork work_faces w new now only (of_now names w outs marks laid valid)
 
-  -- ---- a command that sets all leaf faces, where the numbers are in range
+  -- ---- a command that makes another face variable, where the numbers are in range
 
   module _ (command : Command) (k : FaceAt → ℤ) (fits : IsCommandOf (declared_in now) command) (refused : refusal now command ≡ range_of (with_faces now k)) (made : mesh_after now command ≡ with_faces now k) where
     pub set_allowed : walked_above w.told.grid k ≡ None → refusal now command ≡ None
@@ -120,26 +104,32 @@ module _ (names : VariableNames) (w : WorldState) (outs : List ℤ) (marks : Mar
     set_valid none = subst ValidMesh made (keeps_validity now command valid fits (set_allowed none))
 
     -- the mesh after it, whose world it is
-    module _ (new : WorldState) (only : OnlyFacesAndWork w new) (holds : LeavesHoldFaces new k) (none : walked_above w.told.grid k ≡ None) where
-      pub set_is : mesh_of names new outs marks ≡ mesh_after now command
-      set_is = faces_made new k only holds (set_valid none) ∙ sym made
+    module _ (new : WorldState) (told : new.told ≡ w.told) (world : IsOfMesh new (with_faces now k)) (none : walked_above w.told.grid k ≡ None) where
+      pub made_is : mesh_of names new outs marks ≡ mesh_after now command
+      made_is = faces_made new k told world (set_valid none) ∙ sym made
 
-      set_laid : IsLaidOut names new outs marks
-      set_laid = faces_laid new k only holds (set_valid none)
+      pub made_laid : IsLaidOut names new outs marks
+      made_laid = faces_laid new k told world (set_valid none)
+
+      pub made_valid : ValidMesh (mesh_of names new outs marks)
+      made_valid = subst ValidMesh (sym (made_is ∙ made)) (set_valid none)
+
+    pub set_is : (new : WorldState) → OnlyFacesAndWork w new → LeavesHoldFaces new k → walked_above w.told.grid k ≡ None → mesh_of names new outs marks ≡ mesh_after now command
+    set_is new only holds none = made_is new only.told (faces_world new k only holds) none
 
     -- whichever it was, the engine's mesh is a valid one
     pub set_kept : (new : WorldState) (r : Result (Unit {0}) FaceAbove) → OnlyFacesAndWork w new → OnOk r (walked_above w.told.grid k ≡ None) → OnOk r (LeavesHoldFaces new k) → IfErr r (λ above. IsOfMesh new now) →
         IsLaidOut names new outs marks × ValidMesh (mesh_of names new outs marks)
     set_kept new (Ok done) only none holds stays = (
-      set_laid new only holds none,
-      subst ValidMesh (sym (set_is new only holds none ∙ made)) (set_valid none),
+      made_laid new only.told (faces_world new k only holds) none,
+      made_valid new only.told (faces_world new k only holds) none,
     )
     set_kept new (Err above) only none holds stays = (
       laid_same names w outs marks laid valid new only.told stays,
       subst ValidMesh (sym (same_mesh names w outs marks laid valid new only.told stays)) valid,
     )
 
-  -- ---- uniform and curl
+  -- ---- uniform, curl and induct
 
   abbrev pub even : List ℤ → FaceAt → ℤ
   even b = uniform_faces w.told.grid (three b)
@@ -170,3 +160,57 @@ module _ (names : VariableNames) (w : WorldState) (outs : List ℤ) (marks : Mar
   pub curl_fits : IsSome names.face → IsSome names.edge → IsCommandOf (declared_in now) Curl
   unfolding mesh_of
   curl_fits face edge = (face, edge)
+
+  abbrev pub moved : List ℤ → FaceAt → ℤ
+  moved speeds = inducted w.told.grid (faces_of w) (three speeds)
+
+  pub induct_refused : (speeds : List ℤ) → keeps_courant w.told.grid.shape (three speeds) ≡ true → refusal now (Induct speeds) ≡ range_of (with_faces now (moved speeds))
+  unfolding refusal mesh_of
+  induct_refused speeds slow = rw slow refl
+
+  induct_fast : (speeds : List ℤ) → keeps_courant w.told.grid.shape (three speeds) ≡ false → refusal now (Induct speeds) ≡ Some (refusals.Courant speeds)
+  unfolding refusal mesh_of
+  induct_fast speeds fast = rw fast refl
+
+  pub induct_made : (speeds : List ℤ) → mesh_after now (Induct speeds) ≡ with_faces now (moved speeds)
+  unfolding mesh_of
+  induct_made speeds = refl
+
+  module _ (speeds : List ℤ) (fits : IsCommandOf (declared_in now) (Induct speeds)) (new : WorldState) (told : new.told ≡ w.told) where
+    -- a step is made
+    module _ (done : Unit {0}) (is : Inducts now speeds new (Ok done)) where
+      pub induct_changes : Changes (Ok done) now (Induct speeds) (mesh_of names new outs marks)
+      unfolding mesh_of
+      induct_changes = (
+        set_allowed (Induct speeds) (moved speeds) fits (induct_refused speeds is.0) (induct_made speeds) is.1,
+        made_is (Induct speeds) (moved speeds) fits (induct_refused speeds is.0) (induct_made speeds) new told is.2 is.1,
+      )
+
+      pub induct_laid : IsLaidOut names new outs marks
+      unfolding mesh_of
+      induct_laid = made_laid (Induct speeds) (moved speeds) fits (induct_refused speeds is.0) (induct_made speeds) new told is.2 is.1
+
+      pub induct_valid : ValidMesh (mesh_of names new outs marks)
+      unfolding mesh_of
+      induct_valid = made_valid (Induct speeds) (moved speeds) fits (induct_refused speeds is.0) (induct_made speeds) new told is.2 is.1
+
+    -- or hindered, which leaves the mesh
+    pub induct_stays : (hindrance : FaceHindrance) → Inducts now speeds new (Err hindrance) → IsOfMesh new now
+    induct_stays TooFast is = is.1
+    induct_stays (Number found) is = is.2
+
+    -- whichever it was, the engine's mesh is a valid one
+    pub induct_kept : (r : Result (Unit {0}) FaceHindrance) → Inducts now speeds new r → IsLaidOut names new outs marks × ValidMesh (mesh_of names new outs marks)
+    induct_kept (Ok done) is = (induct_laid done is, induct_valid done is)
+    induct_kept (Err hindrance) is = (
+      laid_same names w outs marks laid valid new told (induct_stays hindrance is),
+      subst ValidMesh (sym (same_mesh names w outs marks laid valid new told (induct_stays hindrance is))) valid,
+    )
+
+    pub induct_hindered : (hindrance : FaceHindrance) → Inducts now speeds new (Err hindrance) → Changes (Err (cause_of_induct speeds hindrance)) now (Induct speeds) (mesh_of names new outs marks)
+    unfolding mesh_of
+    induct_hindered TooFast is = (induct_fast speeds is.0, same_mesh names w outs marks laid valid new told is.1)
+    induct_hindered (Number found) is = (
+      set_refused (Induct speeds) (moved speeds) fits (induct_refused speeds is.0) (induct_made speeds) found is.1,
+      same_mesh names w outs marks laid valid new told is.2,
+    )

@@ -20,6 +20,7 @@ use Rattle.rank_world.specs.Holding.{OnlyCells}
 use Rattle.amr_engine.specs.Filling.{IsFilled}
 use Rattle.amr_engine.specs.Regions.{covers, filled_content}
 use Rattle.amr_engine.specs.declared.region.Fill.{Fill}
+use Rattle.rank_world.proofs.Meshes.{holds_same}
 
 -- a fill in the sizes of the world's blocks
 pub filled_sized : (n e : ℕ) (g : Grid) (b : BlockAt) (fill : Fill) (old new : List ℤ) → IsSized n e g.shape → IsFilled n e b fill old new → IsFilled g.shape.n g.shape.g b fill old new
@@ -38,12 +39,6 @@ array_filled g b fill content old new valid leaf is holds = record {
       ∙ ap (λ x. if covers fill.region c then fill.value else x) (holds.at i j k hi hj hk ∙ view_leaf g content c whole here)
       ∙ sym (view_leaf g (filled_content fill content) c whole here);
 }
-
--- a node holds what it held where its array is as it was
-pub holds_same : (b c : WorldState) (v node : ℕ) (content : CellAt → ℤ) → c.told ≡ b.told → cell_array c v node ≡ cell_array b v node → NodeHolds b v content node → NodeHolds c v content node
-holds_same b c v node content told same holds =
-    subst (λ (t : Told). HoldsViews t.grid content (block_at t.grid node) (cells_of t.grid (cell_array c v node))) (sym told)
-    (subst (λ xs. HoldsViews b.told.grid content (block_at b.told.grid node) (cells_of b.told.grid xs)) (sym same) holds)
 
 -- one more node of a variable is written
 pub cells_again : (a b c : WorldState) (v node : ℕ) → OnlyCells a b v → OnlyOf b c 0 (Cell v) node → OnlyCells a c v

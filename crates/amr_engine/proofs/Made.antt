@@ -57,9 +57,8 @@ use Rattle.amr_engine.specs.declared.marking.Where.TheVariants.{DerefineBelow, R
 use Rattle.amr_engine.specs.Regions.{IsRegionOf, filled, filled_content}
 use Rattle.amr_engine.specs.declared.region.Fill.{Fill}
 use Rattle.amr_engine.specs.declared.region.Region.TheVariants as regions
-use Rattle.amr_engine.proofs.Filled.{holds_same}
 use Rattle.amr_engine.proofs.Shown.{laid_shown, leaves_on, mesh_shown, own_mesh}
-use Rattle.rank_world.proofs.Meshes.{edges_same, faces_same}
+use Rattle.rank_world.proofs.Meshes.{edges_same, faces_same, holds_same}
 
 same_cell : (v w : ℕ) → Cell v ≡ Cell w → v ≡ w
 same_cell v w e = cc

@@ -24,9 +24,9 @@ use Rattle.mesh_model.proofs.FieldLemmas.Totals.{total_by_levels}
 use Rattle.mesh_model.proofs.FieldLemmas.ValidGrid.{leaf_inside}
 use Rattle.rank_world.proofs.FaceContents.{after_is, canonical_inside}
 use Rattle.amr_engine.specs.Netting.{counted, counted_cell, faces_of, net_at}
-use Rattle.amr_engine.specs.Totals.{node_sum}
-use Rattle.amr_engine.proofs.Summed.{node_sums}
 use Rattle.std.proofs.Common.{length}
+use Rattle.rank_world.specs.NodeSums.{node_sum}
+use Rattle.rank_world.proofs.NodeSums.{node_sums}
 
 -- one more count
 pub one_more : (m k i : ℕ) (f : ℕ → ℤ) → pos m ≡ sum_below i f → pos k ≡ f i → pos (m + k) ≡ sum_below (i + 1) f

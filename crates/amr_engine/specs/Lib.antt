@@ -6,8 +6,5 @@ pub mod EngineMesh
 pub mod Plain
 pub mod Stopping
 pub mod Built
-pub mod Flowing
 pub mod Netting
-pub mod Settling
-pub mod Stepping
 pub mod Guards

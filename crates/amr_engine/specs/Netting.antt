@@ -11,7 +11,7 @@ use Rattle.mesh_model.specs.Fields.Totals.{leaf_sum}
 use Rattle.mesh_model.specs.Fields.Views.{face_view}
 use Rattle.mesh_model.specs.Tree.Kinds.{Grid}
 use Rattle.rank_world.specs.Holding.{LeavesHoldFaces}
-use Rattle.amr_engine.specs.Totals.{node_sum}
+use Rattle.rank_world.specs.NodeSums.{node_sum}
 
 -- 1 for a net flux other than 0
 abbrev pub counted : ℤ → ℤ

@@ -1,7 +1,9 @@
 -- What a command does, or why it stops.
 use Rattle.std.specs.Prelude.{◌≡◌, ℕ, List, Option, Some, None, Result, Ok, Err, ℤ}
-use Rattle.amr_engine.specs.declared.hindrance.Hindrance.{Hindrance}
-use Rattle.amr_engine.specs.declared.hindrance.Hindrance.TheVariants.{TooFast, Content, FlowedOut}
+use Rattle.mesh_steps.specs.declared.hindrance.FaceHindrance.{FaceHindrance}
+use Rattle.mesh_steps.specs.declared.hindrance.FaceHindrance.TheVariants as faces
+use Rattle.mesh_steps.specs.declared.hindrance.Hindrance.{Hindrance}
+use Rattle.mesh_steps.specs.declared.hindrance.Hindrance.TheVariants.{TooFast, Content, FlowedOut}
 use Rattle.amr_engine.specs.declared.cause.Cause.{Cause}
 use Rattle.amr_engine.specs.declared.cause.Cause.TheVariants.{Range, Courant, Level, Place, PlaceBlock, Blocks, WriteFault, OutOfMemory}
 use Rattle.amr_engine.specs.declared.cause.StoppedBy.{StoppedBy}
@@ -93,3 +95,8 @@ cause_of_regrid regrids.OutOfMemory = OutOfMemory
 -- the cause that tells of a face out of range
 abbrev pub cause_of_faces : FaceAbove → Cause
 cause_of_faces found = Range (record { var = Face; spot = spots.Face found.face; value = found.value })
+
+-- the cause that tells why an induct at these speeds is hindered
+abbrev pub cause_of_induct : List ℤ → FaceHindrance → Cause
+cause_of_induct speeds faces.TooFast = Courant speeds
+cause_of_induct speeds (faces.Number found) = cause_of_faces found

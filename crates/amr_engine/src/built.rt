@@ -27,6 +27,7 @@ fn is_built_command(command: Command) -> bool
         Command::EdgeSet { .. } => true,
         Command::Uniform { .. } => true,
         Command::Curl => true,
+        Command::Induct { .. } => true,
         Command::NetFlux => true,
         Command::PrintGuards { .. } => true,
         Command::PrintVar { .. } => true,

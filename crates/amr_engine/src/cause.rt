@@ -1,9 +1,9 @@
 //! Why a command stopped.
 
-use crate::hindrance::Hindrance;
 use amr_num::BlockAt;
 use mesh_model::run::stops::{LevelStop, Refusal};
 use mesh_model::{Group, RangeStop, Spot};
+use mesh_steps::{FaceHindrance, Hindrance};
 use rank_world::FaceAbove;
 use regrid_move::RegridStop;
 
@@ -87,6 +87,16 @@ impl Cause {
             spot: Spot::Face(found.face),
             value: i128::from(found.value),
         })
+    }
+
+    /// Why an induct at the speeds stops.
+    pub(crate) fn of_induct(speeds: [i64; 3], hindrance: FaceHindrance) -> Cause
+        ensures { result ≡ plain.cause_of_induct speeds hindrance }
+    {
+        match hindrance {
+            FaceHindrance::TooFast => Cause::Courant(speeds),
+            FaceHindrance::Number(found) => Cause::of_faces(found),
+        }
     }
 
     /// Why an advect of the variable at the speeds stops.

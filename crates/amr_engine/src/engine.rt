@@ -1,6 +1,5 @@
 //! The mesh of a run, and each command on it.
 
-use crate::advection::step;
 use crate::cause::{Cause, Stop};
 use crate::filling::fill_leaves;
 use crate::marking::{Where, mark_where};
@@ -18,13 +17,14 @@ use guard_fill::{fill, restrict_all};
 use mesh_model::language::names::Names;
 use mesh_model::language::script::{Command, Declared, Line};
 use mesh_model::{Group, Spot};
+use mesh_steps::{advect, induct, set_curl};
 use outside_io::Failed;
 use outside_io::disk::Disk;
 use outside_io::sink::Sink;
 use rank_world::World;
 use refine_marks::{SetMarks, close};
 use regrid_move::regrid;
-use staggered::{NoEdge, NoFace, set_curl, set_edge, set_face, set_uniform};
+use staggered::{NoEdge, NoFace, set_edge, set_face, set_uniform};
 use std::alloc::Global;
 
 /// A mesh on which the commands of a script are done: its world, which has the tree and the numbers in blocks of `N`
@@ -261,6 +261,7 @@ impl<const N: usize, const G: usize> Engine<N, G> {
             Command::Total { var } => written(self.print_total(var, sink)),
             Command::NetFlux => written(self.print_net_flux(sink)),
             Command::Curl => self.curl(),
+            Command::Induct { speeds } => self.induct(speeds),
             Command::EdgeSet { at, value } => self.set_edge(at, value),
             _ => unreachable!(),
         }
@@ -392,6 +393,18 @@ impl<const N: usize, const G: usize> Engine<N, G> {
         }
     }
 
+    /// Makes one step of the face variable.
+    fn induct(&mut self, speeds: [i64; 3]) -> Result<(), Cause>
+        requires fits { IsCommandOf (declared_of self.old) (Command.Induct speeds) }
+        ensures changes { Changes result (plain self.old) (Command.Induct speeds) (plain self.new) }
+        ensures declared { declared_of self.new ≡ declared_of self.old }
+    {
+        match induct(&mut self.world, speeds) {
+            Ok(()) => Ok(()),
+            Err(hindrance) => Err(Cause::of_induct(speeds, hindrance)),
+        }
+    }
+
     /// Makes one step of the variable.
     fn advect(&mut self, var: u32, speeds: [i64; 3]) -> Result<(), Cause>
         requires variable { IsCellVariable (declared_of self.old).names var }
@@ -400,7 +413,7 @@ impl<const N: usize, const G: usize> Engine<N, G> {
         ensures declared { declared_of self.new ≡ declared_of self.old }
     {
         let out = self.outs[var as usize];
-        match step(&mut self.world, var, speeds, out) {
+        match advect(&mut self.world, var, speeds, out) {
             Ok(out) => {
                 self.outs[var as usize] = out;
                 Ok(())

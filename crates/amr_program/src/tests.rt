@@ -146,7 +146,7 @@ const REFUSED: [(&[u8], &[u8]); 4] = [
         b"error: script line 2: wrong number of words\n",
     ),
     (
-        b"domain 1 2 1\nfacevar f\ninduct 0 0 0\nend\n",
+        b"domain 1 2 1\nfacevar f\nprint ranks\nend\n",
         b"error: not built\n",
     ),
     (
@@ -482,6 +482,58 @@ edgeset z 0 1 1 0 5\nend\n",
         b"error: line 8: place edge z 0 1 1 0\n",
     ),
 ];
+
+/// Scripts with steps of the face variable, how they end, and what they print.
+const INDUCTED: [(&[u8], Status, &[u8]); 4] = [
+    // What a curl made round one edge moves half a cell along x.
+    (
+        b"domain 1 1 1\ncells 4 1\nlevels 0 0\nfacevar b\nedgevar e\nedgeset z 0 1 1 0 10\ncurl\ninduct 524288 0 0\nprint b\nnetflux\nend\n",
+        Status::Done,
+        HALF_A_CELL_ON,
+    ),
+    // No leaf cell gets a net flux, over jumps of level and regrids, until a single face is set.
+    (
+        b"domain 2 1 1\ncells 4 2\nlevels 0 1\ncellvar u\nfacevar b\nedgevar e\nedgeset z 0 2 2 1 90000\n\
+edgeset x 0 3 1 2 70000\ncurl\nnetflux\nmark refine 0 0 0 0\nregrid\nnetflux\n\
+induct 1000 2000 -500\ninduct 1000 2000 -500\ninduct 1000 2000 -500\ninduct 1000 2000 -500\ninduct 1000 2000 -500\n\
+netflux\nmark derefine where u below 1\nregrid\nnetflux\nfaceset x 0 1 1 1 1000000\nnetflux\nend\n",
+        Status::Done,
+        b"netflux b cells 0\nnetflux b cells 0\nnetflux b cells 0\nnetflux b cells 0\nnetflux b cells 2\n",
+    ),
+    // Speeds that together go more than one finest cell are refused before any number is looked at.
+    (
+        b"domain 1 1 1\ncells 4 1\nlevels 0 1\nfacevar b\ninduct 524288 0 0\ninduct 524288 0 -1\nend\n",
+        Status::Stopped,
+        b"error: line 6: courant 524288 0 -1\n",
+    ),
+    // With the speed on y alone each edge along z has the face normal to x one cell below it: the face normal to y at (1, 1, 0)
+    // gets the 1 of the face normal to x at (2, 0, 0), and would have one more than the greatest number.
+    (
+        b"domain 1 1 1\ncells 4 1\nlevels 0 0\nfacevar b\nfaceset y 0 1 1 0 1099511627776\nfaceset x 0 2 0 0 1\ninduct 0 1048576 0\nend\n",
+        Status::Stopped,
+        b"error: line 7: range b face y 0 1 1 0 1099511627777\n",
+    ),
+];
+
+/// The face variable after half of a field round one edge has moved one cell along x.
+const HALF_A_CELL_ON: &[u8] =
+    b"face b x block 0 0 0 0\n0 5 5 0 0\n0 -5 -5 0 0\n0 0 0 0 0\n0 0 0 0 0\n0 0 0 0 0\n0 0 0 0 0\n0 0 0 0 0\n\
+0 0 0 0 0\n0 0 0 0 0\n0 0 0 0 0\n0 0 0 0 0\n0 0 0 0 0\n0 0 0 0 0\n0 0 0 0 0\n0 0 0 0 0\n0 0 0 0 0\n\
+face b y block 0 0 0 0\n0 0 0 0\n-5 0 5 0\n0 0 0 0\n0 0 0 0\n0 0 0 0\n0 0 0 0\n0 0 0 0\n0 0 0 0\n\
+0 0 0 0\n0 0 0 0\n0 0 0 0\n0 0 0 0\n0 0 0 0\n0 0 0 0\n0 0 0 0\n0 0 0 0\n0 0 0 0\n0 0 0 0\n0 0 0 0\n\
+0 0 0 0\nface b z block 0 0 0 0\n0 0 0 0\n0 0 0 0\n0 0 0 0\n0 0 0 0\n0 0 0 0\n0 0 0 0\n0 0 0 0\n\
+0 0 0 0\n0 0 0 0\n0 0 0 0\n0 0 0 0\n0 0 0 0\n0 0 0 0\n0 0 0 0\n0 0 0 0\n0 0 0 0\n0 0 0 0\n0 0 0 0\n\
+0 0 0 0\n0 0 0 0\nnetflux b cells 0\n";
+
+#[test]
+fn fields_on_faces_are_carried(rt: HostRuntime) -> Result<(), Fail> {
+    for (script, answer, printed) in INDUCTED {
+        let (status, sink) = run(rt.alloc(), &[], script, QUIET)?;
+        assert_eq!(rt; status, answer);
+        assert_eq!(rt; sink.taken(), printed);
+    }
+    Ok(())
+}
 
 /// The face variable after a curl round one edge along z.
 const CURLED: &[u8] =

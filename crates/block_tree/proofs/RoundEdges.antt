@@ -240,6 +240,11 @@ module _ (g : Grid) (b : BlockAt) (some : 0 < g.shape.n) (inside : InDomain g.sh
       let q = position (next (next a)) i j k in
       four_are kind ∙ four_some (λ s t. toward g kind b a s t) n p q some most.0 most.1 1 1 (one_in n p some most.0) (one_in n q some most.1) (own g kind b a ∙ is)
 
+  -- an edge of a split block has a split cell round it
+  pub split_edge_there : is_split_block g b ≡ true → is_split_edge g (edge_name g.shape a b i j k) ≡ true
+  unfolding is_split_edge cell_kind
+  split_edge_there split = self_round false split
+
   pub whole_edge : is_split_block g b ≡ false → is_split_edge g (edge_name g.shape a b i j k) ≡ lies_round g false b (part_of g.shape.n a i j k)
   unfolding is_split_edge cell_kind
   whole_edge whole = others_round false whole

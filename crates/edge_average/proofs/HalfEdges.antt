@@ -10,12 +10,10 @@ use Rattle.amr_num.specs.declared.Axis.TheVariants.{X, Y, Z}
 use Rattle.amr_num.specs.declared.BlockAt.{BlockAt}
 use Rattle.amr_num.specs.declared.EdgeAt.{EdgeAt}
 use Rattle.mesh_model.specs.Fields.Views.{edge_view}
-use Rattle.mesh_model.specs.Fields.FaceSplits.{position}
 use Rattle.mesh_model.specs.Geometry.Blocks.{InDomain}
 use Rattle.mesh_model.specs.Geometry.Coordinates.{half_edge, next}
-use Rattle.mesh_model.specs.Tree.Kinds.{Grid, is_leaf_block, is_leaf_edge, is_split, is_split_block, is_split_edge}
+use Rattle.mesh_model.specs.Tree.Kinds.{Grid, is_leaf_block, is_leaf_edge, is_split_block, is_split_edge}
 use Rattle.mesh_model.specs.Tree.ValidGrid.{Valid}
-use Rattle.mesh_model.proofs.FieldLemmas.BlockOctants.{block_of_cell}
 use Rattle.mesh_model.proofs.FieldLemmas.CellKinds.{wide_of}
 use Rattle.mesh_model.proofs.FieldLemmas.EdgeSums as edges
 use Rattle.mesh_model.proofs.FieldLemmas.LeafEdges.{edge_top}
@@ -25,10 +23,9 @@ use Rattle.mesh_model.proofs.GeometryLemmas.ShapeLimits.{cells_some}
 use Rattle.mesh_model.proofs.TreeLemmas.Levels.{is_child}
 use Rattle.mesh_model.proofs.TreeLemmas.Tests.{refuted}
 use Rattle.mesh_model.proofs.TreeLemmas.Tiling.{child_of_split, child_of_whole, domain_child, leaf_says}
-use Rattle.block_tree.specs.Directions.{across, block_toward, edge_name, lies_round, passes}
+use Rattle.block_tree.specs.Directions.{edge_name, lies_round}
 use Rattle.block_tree.proofs.Leaves.{split_leaf}
-use Rattle.block_tree.proofs.RoundBlocks.{high_step, low_step, round_is}
-use Rattle.block_tree.proofs.RoundEdges.{across_most, ends, four_some, leaf_edge_of_leaf, part_of, whole_edge}
+use Rattle.block_tree.proofs.RoundEdges.{leaf_edge_of_leaf, part_of, split_edge_there, whole_edge}
 use Rattle.edge_average.specs.EdgeArrays.{IsNear}
 use Rattle.edge_average.specs.Laws.{IsOwnView, IsViewOfHalves, LeafEdgeViewsAreHalves, LeafEdgeViewsAreSmall}
 use Rattle.edge_average.specs.Lines.{IsEdgePlace, child_on, edge_there, half_with, halved, has_finer, line_part, line_place, octant_at, place_within, sum_of_halves}
@@ -43,19 +40,6 @@ part_is n X p q r = refl
 part_is n Y p q r = refl
 part_is n Z p q r = refl
 
-own_block : (g : Grid) (b : BlockAt) (a : Axis) → passes (is_split_block g) (block_toward g.shape (across a 1 1) b) ≡ is_split_block g b
-unfolding block_toward
-own_block g b X = refl
-own_block g b Y = refl
-own_block g b Z = refl
-
-one_in : (n p : ℕ) → 0 < n → p ≤ n → (1 ≡ low_step p) ⊎ (1 ≡ high_step n p)
-one_in n p some h = elim (ends n p some h) [
-  | inl low ↦ inr (sym low.1)
-  | inr (inl high) ↦ inl (sym high.0)
-  | inr (inr between) ↦ inl (sym between.0)
-]
-
 module _ (g : Grid) (b : BlockAt) (some : 0 < g.shape.n) (inside : InDomain g.shape b) (a : Axis) (p q r : ℕ) (place : IsEdgePlace g.shape.n p q r) where
   -- of a block that is not split an edge has a split cell round it where finer leaves stand round its line
   pub split_there : is_split_block g b ≡ false → is_split_edge g (edge_there g.shape a b p q r) ≡ has_finer g a b q r
@@ -65,19 +49,12 @@ module _ (g : Grid) (b : BlockAt) (some : 0 < g.shape.n) (inside : InDomain g.sh
       (λ i j k hi hj hk. whole_edge g b some inside a i j k hi hj hk whole) p q r place
       ∙ ap (lies_round g false b) (part_is g.shape.n a p q r)
 
-  own_toward : passes (is_split_block g) (block_toward g.shape (across a 1 1) b) ≡ is_split_block g b
-  own_toward = own_block g b a
-
   -- and of a split block each has
   pub self_split : is_split_block g b ≡ true → is_split_edge g (edge_there g.shape a b p q r) ≡ true
-  unfolding edge_there is_split_edge
+  unfolding edge_there
   self_split split =
-      let n = g.shape.n in
-      at_line (λ i j k. is_split_edge g (edge_name g.shape a b i j k) ≡ true) a n
-      (λ i j k hi hj hk.
-      round_is g.shape b some inside (is_split g) (is_split_block g) (λ d x y z hx hy hz. ap (is_split_block g) (block_of_cell n d x y z hx hy hz)) a i j k hi hj hk
-      ∙ four_some (λ u v. passes (is_split_block g) (block_toward g.shape (across a u v) b)) n (position (next a) i j k) (position (next (next a)) i j k) some (across_most a n i j k hi hj hk).0 (across_most a n i j k hi hj hk).1 1 1
-      (one_in n (position (next a) i j k) some (across_most a n i j k hi hj hk).0) (one_in n (position (next (next a)) i j k) some (across_most a n i j k hi hj hk).1) (own_toward ∙ split)) p q r place
+      at_line (λ i j k. is_split_edge g (edge_name g.shape a b i j k) ≡ true) a g.shape.n
+      (λ i j k hi hj hk. split_edge_there g b some inside a i j k hi hj hk split) p q r place
 
   pub leaf_there : is_leaf_block g b ≡ true → is_split_block g b ≡ false → has_finer g a b q r ≡ false → is_leaf_edge g (edge_there g.shape a b p q r) ≡ true
   unfolding edge_there has_finer

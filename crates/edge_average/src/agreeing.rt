@@ -13,7 +13,7 @@ use rank_world::World;
 /// Makes the copies of a group's numbers agree, once each copy of each leaf face's or leaf edge's number is that number: a
 /// coarse face beside finer leaves gets the sum of the four finer faces, and a coarse edge round which finer leaves stand
 /// the sum of its two halves, whatever stood there. Each leaf then holds the views of the numbers on leaf faces or leaf
-/// edges. All its other numbers stay, and so do all other arrays.
+/// edges, and all other arrays stay. The guards of these arrays may have anything afterwards.
 ///
 /// The group is the face variable, or the edge variable, which has to be declared, or with `work` the work edges, which are
 /// always there. Nothing is refused, and no memory is taken.

@@ -230,7 +230,7 @@ fn agree_node<const N: usize, const G: usize>(world: &mut World<N, G>, work: boo
 }
 
 /// Gives each edge of a leaf round which finer leaves stand the sum of its two halves, whatever stood there, once each copy
-/// of each leaf edge has that edge's number. All other numbers stay.
+/// of each leaf edge has that edge's number. Leaf edges keep theirs; guards may have anything afterwards.
 pub(crate) fn agree_edges<const N: usize, const G: usize>(world: &mut World<N, G>, work: bool)
     requires fit { IsFit N G world.old }
     requires declared { (a : Axes) → HasVar world.old.told.counts (holding.edge_var work a) }

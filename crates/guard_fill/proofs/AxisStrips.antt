@@ -29,7 +29,7 @@ cells_least size = elim size.cells [ inl e ↦ (omega arith, omega arith) | inr 
 -- ---- coordinates, as they are brought in
 
 module _ (blocks n b : ℕ) (inside : b < blocks) where
-  row : n * b + n ≤ n * blocks
+  pub row : n * b + n ≤ n * blocks
   row = let next : n * suc b ≤ n * blocks = mul-le-mul_left n inside in let sum : n * suc b ≡ n * b + n = grind arith in omega arith
 
   -- of a cell of the axis
@@ -38,7 +38,7 @@ module _ (blocks n b : ℕ) (inside : b < blocks) where
   own false q h = omega arith
 
   -- of one before the first
-  low_wrapped : (k : ℕ) → k < blocks * n → floor_mod (negsuc k) (blocks * n) ≡ blocks * n - 1 - k
+  pub low_wrapped : (k : ℕ) → k < blocks * n → floor_mod (negsuc k) (blocks * n) ≡ blocks * n - 1 - k
   low_wrapped k h = let small : k % (blocks * n) ≡ k = mod-eq_of_lt h in omega (arith, ints, small)
 
   -- and of one behind the last
@@ -271,7 +271,7 @@ in_axis : (blocks n c u : ℕ) → c < blocks → u < n → n * c + u < blocks *
 in_axis blocks n c u hc hu = inside_block blocks n c hc c u hc hu
 
 -- a position of the axis
-own_position : (periodic : Bool) (e q : ℕ) → q ≤ e → brought_in periodic e e (pos q) ≡ wrapped periodic e q
+pub own_position : (periodic : Bool) (e q : ℕ) → q ≤ e → brought_in periodic e e (pos q) ≡ wrapped periodic e q
 unfolding wrapped
 own_position false e q h = omega arith
 own_position true e q h = elim (cases_lt q e) [

@@ -2,6 +2,9 @@ pub mod AxisGuards
 pub mod AxisStrips
 pub mod Filled
 pub mod Gathering
+pub mod NearCells
+pub mod NearFaces
+pub mod NearPositions
 pub mod NearViews
 pub mod Neighbours
 pub mod PatchRows

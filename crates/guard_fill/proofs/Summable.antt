@@ -12,7 +12,6 @@ use Rattle.mesh_model.specs.Geometry.Blocks.{InDomain}
 use Rattle.mesh_model.specs.Geometry.Places.{in_block, longer_across}
 use Rattle.mesh_model.specs.Tree.Kinds.{Grid, is_split, is_split_block, is_split_edge, is_split_face}
 use Rattle.mesh_model.specs.Tree.ValidGrid.{Valid}
-use Rattle.mesh_model.specs.Fields.FaceSplits.{position}
 use Rattle.mesh_model.specs.Fields.Views.{cell_view, edge_view, face_view}
 use Rattle.mesh_model.specs.Fields.ArrayPlaces.{HoldsEdges, HoldsFaces, HoldsViews, extents_of, number_at}
 use Rattle.mesh_model.specs.Fields.FinePlaces.{edges_in, faces_in}
@@ -28,9 +27,6 @@ use Rattle.mesh_model.proofs.FieldLemmas.KeptValid.{leaf_cells_few}
 use Rattle.mesh_model.proofs.FieldLemmas.SideBounds.{split_face_within}
 use Rattle.mesh_model.proofs.FieldLemmas.ValidGrid.{tree}
 use Rattle.mesh_model.proofs.GeometryLemmas.ShapeLimits.{cells_least, cells_some}
-use Rattle.block_tree.specs.Directions.{across, block_toward, edge_name, passes}
-use Rattle.block_tree.proofs.RoundBlocks.{high_step, low_step, round_is}
-use Rattle.block_tree.proofs.RoundEdges.{across_most, ends, four_some}
 use Rattle.block_tree.specs.Numbered.{block_at}
 use Rattle.rank_world.specs.Holding.{IsOfValidMesh, LeavesHold, LeavesHoldEdges, LeavesHoldFaces, NodesHold, NodesHoldEdges, NodesHoldFaces, cell_array, edge_array, face_array}
 use Rattle.rank_world.proofs.FaceBlocks.{split_face_there}
@@ -38,6 +34,8 @@ use Rattle.restrict_op.proofs.EdgeOctants as edges
 use Rattle.restrict_op.proofs.FaceOctants as faces
 use Rattle.guard_fill.specs.Restricting.{AddUp, HasViews, HaveSmallViews, LeavesHave, NodesHave}
 use Rattle.guard_fill.proofs.AxisSums.{Apart}
+use Rattle.block_tree.proofs.RoundEdges.{split_edge_there}
+use Rattle.block_tree.specs.Directions.{edge_name}
 
 module _ (g : Grid) (valid : Valid g) where
   pub cells_add_up : (v : ℕ) (content : CellAt → ℤ) → AddUp (Cell v) (cell_view g content)
@@ -50,32 +48,6 @@ module _ (g : Grid) (valid : Valid g) where
   edges_add_up a field = record { sum = edges.view_sum g field a valid }
 
 -- ---- split edges
-
-one_in : (n p : ℕ) → 0 < n → p ≤ n → (1 ≡ low_step p) ⊎ (1 ≡ high_step n p)
-one_in n p some h = elim (ends n p some h) [
-  | inl low ↦ inr (sym low.1)
-  | inr (inl high) ↦ inl (sym high.0)
-  | inr (inr between) ↦ inl (sym between.0)
-]
-
-own_toward : (g : Grid) (b : BlockAt) (a : Axis) → passes (is_split_block g) (block_toward g.shape (across a 1 1) b) ≡ is_split_block g b
-unfolding block_toward
-own_toward g b X = refl
-own_toward g b Y = refl
-own_toward g b Z = refl
-
--- an edge of a split block has a split cell round it
-pub split_edge_there : (g : Grid) → Valid g → (a : Axis) (b : BlockAt) → is_split_block g b ≡ true → InDomain g.shape b → (i j k : ℕ) →
-    i < longer_across a X g.shape.n → j < longer_across a Y g.shape.n → k < longer_across a Z g.shape.n → is_split_edge g (edge_name g.shape a b i j k) ≡ true
-unfolding is_split_edge
-split_edge_there g valid a b split inside i j k hi hj hk =
-    let n = g.shape.n in
-    let some = cells_some valid.shape in
-    let most = across_most a n i j k hi hj hk in
-    let p = position (next a) i j k in
-    let q = position (next (next a)) i j k in
-    round_is g.shape b some inside (is_split g) (is_split_block g) (λ d i j k hi hj hk. ap (is_split_block g) (block_of_cell n d i j k hi hj hk)) a i j k hi hj hk
-    ∙ four_some (λ s t. passes (is_split_block g) (block_toward g.shape (across a s t) b)) n p q some most.0 most.1 1 1 (one_in n p some most.0) (one_in n q some most.1) (own_toward g b a ∙ split)
 
 -- ---- in a valid mesh
 
@@ -135,7 +107,7 @@ module _ (w : WorldState) (of : IsOfValidMesh w) where
         leaves = edges_have a m.edges (of.world.on_edges declared);
         small = λ b i j k split inside hi hj hk.
             let e = edge_name g.shape a b i j k in
-            let is : is_split_edge g e ≡ true = split_edge_there g valid a b split inside i j k hi hj hk in
+            let is : is_split_edge g e ≡ true = split_edge_there g b (cells_some valid.shape) inside a i j k hi hj hk split in
             subst (λ h. Within (2 ^ 62) (edge_view h m.edges e)) (sym of.world.grid)
             (wider (edge_view m.grid m.edges e) _ (2 ^ 62) (split_edge_within m.grid of.valid.grid m.edges (2 ^ 40) (λ d leaf. of.valid.range.edges d) (wide m.grid of.valid.grid) e (subst (λ h. is_split_edge h e ≡ true) of.world.grid is)) (leaf_cells_few m of.valid));
       }

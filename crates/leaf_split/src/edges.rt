@@ -225,8 +225,8 @@ fn keep_parts<const N: usize, const G: usize>(
 
 /// Makes the edges of a child of a leaf, as if the leaf were refined, in arrays of their own: halves of the leaf's edges and
 /// between them floored means. Where leaves of the child's level lie round an edge, it has their number. So it holds the
-/// views at its coordinates, whatever its arrays had before; their guards stay. `block` is the child, whose octant in its
-/// parent is i + 2 j + 4 k for the halves i on x, j on y and k on z.
+/// views at its coordinates, whatever its arrays had before; guards may have anything afterwards. `block` is the child,
+/// whose octant in its parent is i + 2 j + 4 k for the halves i on x, j on y and k on z.
 pub fn child_edges<const N: usize, const G: usize>(
     world: &World<N, G>,
     parent: u32,

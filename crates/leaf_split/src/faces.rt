@@ -159,8 +159,8 @@ fn bits_of(x: Sides, y: Sides, z: Sides) -> u32
 
 /// Makes the faces of a child of a leaf, as if the leaf were refined, in arrays of their own: parts of the leaf's faces and
 /// between them what the inner rule gives. Where leaves of the child's level stand beside it, it has their numbers. So it
-/// holds the views at its coordinates, whatever its arrays had before; their guards stay. `block` is the child, whose
-/// octant in its parent is i + 2 j + 4 k for the halves i on x, j on y and k on z.
+/// holds the views at its coordinates, whatever its arrays had before; guards may have anything afterwards. `block` is the
+/// child, whose octant in its parent is i + 2 j + 4 k for the halves i on x, j on y and k on z.
 pub fn child_faces<const N: usize, const G: usize>(
     world: &World<N, G>,
     parent: u32,

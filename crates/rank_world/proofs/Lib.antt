@@ -10,3 +10,4 @@ pub mod Found
 pub mod Exchanged
 pub mod EdgeContents
 pub mod Walked
+pub mod NodeSums

@@ -28,7 +28,7 @@ use Rattle.mesh_model.proofs.TreeLemmas.Tiling.{leaf_says}
 use Rattle.block_tree.specs.Numbered.{IsNode, block_at}
 use Rattle.block_tree.proofs.Leaves.{leaf_node}
 use Rattle.block_tree.proofs.Members.{at_in, one_place}
-use Rattle.rank_world.specs.Holding.{IsLeafNode, IsOfMesh, IsOfValidMesh, LeavesHold, LeavesHoldEdges, LeavesHoldFaces, LeavesInRange, OnlyCells, cell_array, edge_array, face_array, numbers_of}
+use Rattle.rank_world.specs.Holding.{IsLeafNode, IsOfMesh, IsOfValidMesh, LeavesHold, LeavesHoldEdges, LeavesHoldFaces, LeavesInRange, NodeHolds, OnlyCells, cell_array, edge_array, face_array, numbers_of}
 
 module _ (w : WorldState) (valid : Valid w.told.grid) (order : Sorted w.told.grid.leaves) where
   abbrev IsLeafCell : CellAt → Type 0
@@ -157,6 +157,12 @@ mesh_kept a b m told cells faces edges of = record {
   on_faces = λ h. faces (of.on_faces (subst (λ (t : Told). 0 < t.counts.faces) told h));
   on_edges = λ h. edges (of.on_edges (subst (λ (t : Told). 0 < t.counts.edges) told h));
 }
+
+-- a node holds what it held where its array is as it was
+pub holds_same : (b c : WorldState) (v node : ℕ) (content : CellAt → ℤ) → c.told ≡ b.told → cell_array c v node ≡ cell_array b v node → NodeHolds b v content node → NodeHolds c v content node
+holds_same b c v node content told same holds =
+    subst (λ (t : Told). HoldsViews t.grid content (block_at t.grid node) (cells_of t.grid (cell_array c v node))) (sym told)
+    (subst (λ xs. HoldsViews b.told.grid content (block_at b.told.grid node) (cells_of b.told.grid xs)) (sym same) holds)
 
 -- leaves whose arrays of faces are what they were hold the same field on faces
 pub faces_same : (a b : WorldState) (field : FaceAt → ℤ) → b.told ≡ a.told → ((x : Axis) (node : ℕ) → IsLeafNode a.told.grid node → face_array b x node ≡ face_array a x node) → LeavesHoldFaces a field → LeavesHoldFaces b field

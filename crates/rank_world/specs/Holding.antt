@@ -11,7 +11,7 @@ use Rattle.mesh_model.specs.declared.fields.values.Var.{Var}
 use Rattle.mesh_model.specs.declared.fields.values.Var.TheVariants.{Cell, Edge, EdgeWork, Face, FaceWork}
 use Rattle.mesh_model.specs.Fields.Arrays.{array_in}
 use Rattle.mesh_model.specs.Fields.Octants.{cells_of}
-use Rattle.mesh_model.specs.Fields.ArrayPlaces.{HoldsEdges, HoldsFaces, HoldsViews}
+use Rattle.mesh_model.specs.Fields.ArrayPlaces.{HoldsEdges, HoldsFaces, HoldsLeafFaces, HoldsViews}
 use Rattle.mesh_model.specs.Fields.FinePlaces.{edges_in, faces_in}
 use Rattle.mesh_model.specs.Geometry.Canonical.{canonical_on}
 use Rattle.mesh_model.specs.Geometry.Coordinates.{edge_of, face_of, next}
@@ -58,12 +58,6 @@ LeavesHoldFaces w field = (node : ℕ) → IsLeafNode w.told.grid node → NodeH
 -- each node does
 abbrev pub NodesHoldFaces : WorldState → (FaceAt → ℤ) → Type 0
 NodesHoldFaces w field = (node : ℕ) → IsNode w.told.grid node → NodeHoldsFaces w field node
-
--- a block has a field on the leaf faces among its faces normal to an axis; on its other faces, those with finer leaves beside them, it may have anything
-pub record HoldsLeafFaces (g : Grid) (field : FaceAt → ℤ) (a : Axis) (b : BlockAt) (numbers : ℕ → ℕ → ℕ → ℤ) : Type 0 where
-  pub at : (i j k : ℕ) → i < longer_on a X g.shape.n → j < longer_on a Y g.shape.n → k < longer_on a Z g.shape.n →
-      let f = face_of a (canonical_on g.shape a (in_block g.shape.n b i j k)) in
-      is_leaf_face g f ≡ true → numbers (g.shape.g + i) (g.shape.g + j) (g.shape.g + k) ≡ field f
 
 -- each leaf does, so that every copy of a leaf face's number is the field's
 abbrev pub LeafFacesHold : WorldState → (FaceAt → ℤ) → Type 0

@@ -10,3 +10,4 @@ pub mod WorldLends
 pub mod FaceRange
 pub mod EdgeRange
 pub mod Exchanging
+pub mod NodeSums

@@ -107,7 +107,8 @@ fn axis_above<const N: usize, const G: usize>(
 }
 
 /// The first leaf edge of a leaf whose number is out of range, with that number: first those along x, then y, then z, and
-/// among these x goes fastest, then y, then z.
+/// among these x goes fastest, then y, then z. Of a leaf that is its own neighbour all copies of an edge on its sides have to
+/// agree.
 pub fn first_edge_above<const N: usize, const G: usize>(
     world: &World<N, G>,
     node: u32,

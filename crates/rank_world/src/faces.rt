@@ -128,7 +128,8 @@ fn first_above<const N: usize, const G: usize>(
 }
 
 /// The first leaf face of a leaf whose number is out of range, with that number: first those normal to x, then y, then z,
-/// and among these x goes fastest, then y, then z.
+/// and among these x goes fastest, then y, then z. Of a leaf that is its own neighbour both copies of a face on its sides
+/// have to agree.
 pub fn first_face_above<const N: usize, const G: usize>(
     world: &World<N, G>,
     node: u32,

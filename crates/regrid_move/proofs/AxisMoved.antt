@@ -15,17 +15,15 @@ use Rattle.mesh_model.specs.Geometry.Coordinates.{face_of, next}
 use Rattle.mesh_model.specs.Geometry.Places.{in_block, longer_across, longer_on}
 use Rattle.mesh_model.specs.Fields.ArrayPlaces.{HoldsEdgeField, HoldsEdges, HoldsFaceField, HoldsFaces, IsSize, edge_extents, extents_of, face_extents, number_at}
 use Rattle.mesh_model.specs.Fields.Arrays.{Counts, HasArray, HasVar, array_in, var_length}
-use Rattle.mesh_model.specs.Fields.FaceSplits.{position}
 use Rattle.mesh_model.specs.Fields.FinePlaces.{FineSumsAreSmall, IsSummed, edges_in, faces_in}
 use Rattle.mesh_model.specs.Fields.Octants.{half_at}
 use Rattle.mesh_model.specs.Fields.Plain.{Mesh}
 use Rattle.mesh_model.specs.Fields.Ranks.{IsFit, IsSized, OnlyOf, Told, WorldState, rank_at, world_with}
 use Rattle.mesh_model.specs.Fields.Valid.{ValidMesh}
 use Rattle.mesh_model.specs.Fields.Views.{edge_view, face_view}
-use Rattle.mesh_model.specs.Tree.Kinds.{Grid, is_split, is_split_block, is_split_edge, is_split_face}
+use Rattle.mesh_model.specs.Tree.Kinds.{Grid, is_split_block, is_split_edge, is_split_face}
 use Rattle.mesh_model.specs.Tree.Order.{IsIn}
 use Rattle.mesh_model.specs.Tree.ValidGrid.{Valid}
-use Rattle.mesh_model.proofs.FieldLemmas.BlockOctants.{block_of_cell}
 use Rattle.mesh_model.proofs.FieldLemmas.Bounds.{wider}
 use Rattle.mesh_model.proofs.FieldLemmas.EdgeBounds.{split_edge_within}
 use Rattle.mesh_model.proofs.FieldLemmas.KeptValid.{leaf_cells_few}
@@ -35,9 +33,7 @@ use Rattle.mesh_model.proofs.GeometryLemmas.ShapeLimits.{cells_least, cells_some
 use Rattle.mesh_model.proofs.TreeLemmas.Nodes.{in_node}
 use Rattle.mesh_model.proofs.TreeLemmas.Tiling.{leaf_says, split_shows}
 use Rattle.block_tree.proofs.Leaves.{node_inside}
-use Rattle.block_tree.proofs.RoundBlocks.{high_step, low_step, round_is}
-use Rattle.block_tree.proofs.RoundEdges.{across_most, ends, four_some}
-use Rattle.block_tree.specs.Directions.{across, block_toward, edge_name, passes}
+use Rattle.block_tree.specs.Directions.{edge_name}
 use Rattle.block_tree.specs.Numbered.{IsNode, block_at}
 use Rattle.rank_world.specs.Holding.{IsLeafNode, IsOfValidMesh, OnlyAxes, OnlyAxesOf}
 use Rattle.rank_world.proofs.FaceBlocks.{split_face_there}
@@ -48,6 +44,7 @@ use Rattle.regrid_move.specs.AxisMoves.{AxesMoved, AxisMoved, AxisOctantMoved, F
 use Rattle.regrid_move.specs.Near.{AreNear}
 use Rattle.regrid_move.specs.declared.kinds.Staggered.{Staggered}
 use Rattle.regrid_move.specs.declared.kinds.Staggered.TheVariants.{Edges, Faces}
+use Rattle.block_tree.proofs.RoundEdges.{split_edge_there}
 
 -- ---- worlds of which arrays on axes are written
 
@@ -163,32 +160,6 @@ split_edge_small : (m : Mesh) → ValidMesh m → (e : EdgeAt) → is_split_edge
 split_edge_small m valid e split =
     wider (edge_view m.grid m.edges e) _ (2 ^ 62) (split_edge_within m.grid valid.grid m.edges (2 ^ 40) (λ h leaf. valid.range.edges h) (wide m.grid valid.grid) e split) (leaf_cells_few m valid)
 
-one_in : (n p : ℕ) → 0 < n → p ≤ n → (1 ≡ low_step p) ⊎ (1 ≡ high_step n p)
-one_in n p some h = elim (ends n p some h) [
-  | inl low ↦ inr (sym low.1)
-  | inr (inl high) ↦ inl (sym high.0)
-  | inr (inr between) ↦ inl (sym between.0)
-]
-
-own_toward : (g : Grid) (b : BlockAt) (a : Axis) → passes (is_split_block g) (block_toward g.shape (across a 1 1) b) ≡ is_split_block g b
-unfolding block_toward
-own_toward g b X = refl
-own_toward g b Y = refl
-own_toward g b Z = refl
-
--- an edge of a split block has a split cell round it
-split_edge_there : (g : Grid) → Valid g → (a : Axis) (b : BlockAt) → is_split_block g b ≡ true → InDomain g.shape b → (i j k : ℕ) →
-    i < longer_across a X g.shape.n → j < longer_across a Y g.shape.n → k < longer_across a Z g.shape.n → is_split_edge g (edge_name g.shape a b i j k) ≡ true
-unfolding is_split_edge
-split_edge_there g valid a b split inside i j k hi hj hk =
-    let n = g.shape.n in
-    let some = cells_some valid.shape in
-    let most = across_most a n i j k hi hj hk in
-    let p = position (next a) i j k in
-    let q = position (next (next a)) i j k in
-    round_is g.shape b some inside (is_split g) (is_split_block g) (λ d i j k hi hj hk. ap (is_split_block g) (block_of_cell n d i j k hi hj hk)) a i j k hi hj hk
-    ∙ four_some (λ s t. passes (is_split_block g) (block_toward g.shape (across a s t) b)) n p q some most.0 most.1 1 1 (one_in n p some most.0) (one_in n q some most.1) (own_toward g b a ∙ split)
-
 -- so the sums of a child's numbers are small, where the block round it is split
 module _ (n e : ℕ) (w : WorldState) (a : Axis) (b : BlockAt) (q node : ℕ) (fit : IsFit n e w) (of : IsOfValidMesh w) (leaf : IsLeafNode w.told.grid node) (child : block_at w.told.grid node ≡ child_block b q)
     (split : is_split_block w.told.grid b ≡ true) (there : InDomain w.told.grid.shape b) where
@@ -219,8 +190,8 @@ module _ (n e : ℕ) (w : WorldState) (a : Axis) (b : BlockAt) (q node : ℕ) (f
       let f = edge_name g.shape a b (half_at g.shape.n q + i) (half_at g.shape.n (q / 2) + j) (half_at g.shape.n (q / 4) + k) in
       let along = var_along g.shape.n (Edge a) in
       let size = valid.shape.cells in
-      let split_here : is_split_edge g f ≡ true = split_edge_there g valid a b split there (half_at g.shape.n q + i) (half_at g.shape.n (q / 2) + j) (half_at g.shape.n (q / 4) + k)
-      (whole_below g.shape.n _ _ q i size along.x hi) (whole_below g.shape.n _ _ (q / 2) j size along.y hj) (whole_below g.shape.n _ _ (q / 4) k size along.z hk) in
+      let split_here : is_split_edge g f ≡ true = split_edge_there g b (cells_some valid.shape) there a (half_at g.shape.n q + i) (half_at g.shape.n (q / 2) + j) (half_at g.shape.n (q / 4) + k)
+      (whole_below g.shape.n _ _ q i size along.x hi) (whole_below g.shape.n _ _ (q / 2) j size along.y hj) (whole_below g.shape.n _ _ (q / 4) k size along.z hk) split in
       let small : Within (2 ^ 62) (edge_view g m.edges f) = subst (λ h. Within (2 ^ 62) (edge_view h m.edges f)) (sym of.world.grid) (split_edge_small m of.valid f (subst (λ h. is_split_edge h f ≡ true) of.world.grid split_here)) in
       subst (Within (2 ^ 62)) (sym (edges.two_view g m.edges a valid b q (array_of Edges w a node) views i j k hi hj hk)) small)
 

@@ -3,6 +3,4 @@ pub mod Uniform
 pub mod FacesFound
 pub mod UniformSet
 pub mod FaceSet
-pub mod Curled
-pub mod CurlWalk
 pub mod EdgeSet

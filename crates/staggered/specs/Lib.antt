@@ -2,4 +2,3 @@ pub mod Blocks
 pub mod Facing
 pub mod Setting
 pub mod EdgeSetting
-pub mod Curling

@@ -7,8 +7,8 @@ use Rattle.amr_num.specs.declared.Axis.{Axis}
 use Rattle.amr_num.specs.declared.Axis.TheVariants.{X, Y, Z}
 use Rattle.mesh_model.specs.Fields.ArrayPlaces.{Fits, face_extents}
 use Rattle.step_advect.specs.Flux.{donor_of, flux_between}
-use Rattle.mesh_model.specs.Geometry.Places.{longer_on}
-use Rattle.step_advect.specs.Fluxed.{AreFacesWithin, AreSidesWithin, Flow, along, block_faces, donor_at, flux_at, flux_from, is_on_side}
+use Rattle.mesh_model.specs.Geometry.Places.{is_on_side, longer_on}
+use Rattle.step_advect.specs.Fluxed.{AreFacesWithin, AreSidesWithin, Flow, along, block_faces, donor_at, flux_at, flux_from}
 
 pub faces_fit : (n g : ℕ) (a : Axis) → Fits (face_extents n g a) (block_faces n g a)
 faces_fit n g X = record { x = omega arith; y = omega arith; z = omega arith }

@@ -8,6 +8,5 @@ pub mod Ranges
 pub mod Refusals
 pub mod Rows
 pub mod Seams
-pub mod Sides
 pub mod Small
 pub mod Telescopes

@@ -10,7 +10,7 @@ use Rattle.mesh_model.specs.declared.geometry.Shape.{Shape}
 use Rattle.mesh_model.specs.Geometry.Blocks.{InDomain}
 use Rattle.mesh_model.specs.Geometry.Coordinates.{face_of, roots, side_index, side_kind}
 use Rattle.mesh_model.specs.Geometry.Limits.{IsShape}
-use Rattle.mesh_model.specs.Geometry.Places.{in_block, longer_on}
+use Rattle.mesh_model.specs.Geometry.Places.{in_block, is_on_side, longer_on}
 use Rattle.mesh_model.specs.Geometry.Touch.{block_on}
 use Rattle.mesh_model.specs.Tree.Kinds.{Grid}
 use Rattle.mesh_model.specs.Fields.Advect.{Speeds, blown_from, is_closed_kind, leaf_flux, on_closed_side}
@@ -18,11 +18,11 @@ use Rattle.mesh_model.specs.Fields.ArrayPlaces.{HoldsFaceField, cell_extents, fa
 use Rattle.mesh_model.specs.Fields.Views.{cell_view}
 use Rattle.mesh_model.proofs.GeometryLemmas.ShapeLimits.{cells_some}
 use Rattle.step_advect.specs.Flux.{flux_between}
-use Rattle.step_advect.specs.Fluxed.{Flow, IsFluxed, along, is_on_side}
+use Rattle.step_advect.specs.Fluxed.{Flow, IsFluxed, along}
 use Rattle.step_advect.specs.Lifts.{HoldsBeside, IsFlowOf}
 use Rattle.step_advect.proofs.Donors.{block_inside, donor_is, position_is, position_within}
 use Rattle.step_advect.proofs.Seams.{flux_named}
-use Rattle.step_advect.proofs.Sides.{on_domain_side}
+use Rattle.mesh_model.proofs.GeometryLemmas.Sides.{on_domain_side}
 
 pub extent_turned : (r n m : ℕ) → n * (r * m) ≡ r * n * m
 extent_turned r n m = grind arith

@@ -8,7 +8,7 @@ use Rattle.amr_num.specs.declared.CellAt.{CellAt}
 use Rattle.amr_num.specs.declared.FaceAt.{FaceAt}
 use Rattle.mesh_model.specs.Geometry.Blocks.{InDomain}
 use Rattle.mesh_model.specs.Geometry.Coordinates.{after, extent, face_of, is_periodic, on, roots, side_index, wrapped}
-use Rattle.mesh_model.specs.Geometry.Places.{in_block}
+use Rattle.mesh_model.specs.Geometry.Places.{in_block, is_on_side}
 use Rattle.mesh_model.specs.Geometry.Touch.{block_on}
 use Rattle.mesh_model.specs.Tree.Kinds.{Grid, is_leaf_block}
 use Rattle.mesh_model.specs.Tree.ValidGrid.{Valid}
@@ -21,12 +21,12 @@ use Rattle.mesh_model.proofs.GeometryLemmas.OnAxes.{on_with, with_level}
 use Rattle.mesh_model.proofs.GeometryLemmas.ShapeLimits.{cells_some}
 use Rattle.mesh_model.proofs.TreeLemmas.Tiling.{leaf_says}
 use Rattle.step_advect.specs.Applied.{flows_in, inner, is_chosen, out_along, out_through}
-use Rattle.step_advect.specs.Fluxed.{along, is_on_side}
+use Rattle.step_advect.specs.Fluxed.{along}
 use Rattle.step_advect.specs.Lifts.{AreOuterSides, HoldsFlows}
 use Rattle.step_advect.proofs.Donors.{block_inside, position_is}
 use Rattle.step_advect.proofs.Lifted.{extent_turned}
 use Rattle.step_advect.proofs.Nets.{high_read, low_read, upper}
-use Rattle.step_advect.proofs.Sides.{on_domain_side}
+use Rattle.mesh_model.proofs.GeometryLemmas.Sides.{on_domain_side}
 use Rattle.step_advect.proofs.Telescopes.{on_sides, out_up}
 
 -- a test that is taken to both sides

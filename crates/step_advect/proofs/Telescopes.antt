@@ -10,8 +10,9 @@ use Rattle.amr_num.proofs.Parts.{sum_below_same}
 use Rattle.mesh_model.specs.Fields.Totals.{box_sum}
 use Rattle.mesh_model.proofs.FieldLemmas.Sums.{sum_below_sub, sum_below_zero}
 use Rattle.step_advect.specs.Applied.{out_along, side_sum}
-use Rattle.step_advect.specs.Fluxed.{along, is_on_side}
+use Rattle.step_advect.specs.Fluxed.{along}
 use Rattle.step_advect.proofs.Nets.{upper}
+use Rattle.mesh_model.specs.Geometry.Places.{is_on_side}
 
 -- what each place hands on to the next
 climb : (k : ℕ) (w : ℕ → ℤ) → sum_below k (λ p. w (p + 1) -ℤ w p) ≡ w k -ℤ w 0

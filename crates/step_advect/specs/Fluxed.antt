@@ -4,7 +4,7 @@ use Rattle.amr_num.specs.Numbers.{Within, carry}
 use Rattle.amr_num.specs.declared.Axis.{Axis}
 use Rattle.amr_num.specs.declared.Axis.TheVariants.{X, Y, Z}
 use Rattle.mesh_model.specs.Geometry.Coordinates.{on, step}
-use Rattle.mesh_model.specs.Geometry.Places.{longer_on}
+use Rattle.mesh_model.specs.Geometry.Places.{is_on_side, longer_on}
 use Rattle.mesh_model.specs.Fields.ArrayPlaces.{Box, IsWritten, cell_extents, face_extents, number_at}
 use Rattle.step_advect.specs.declared.fluxes.FlowAlong.{FlowAlong}
 use Rattle.step_advect.specs.Flux.{donor_of, flux_between}
@@ -24,10 +24,6 @@ lower_by h a numbers i j k = numbers (i - (step a h).x) (j - (step a h).y) (k - 
 -- the content of the cell that a speed on an axis comes from, at the face below a place
 abbrev pub donor_at : Axis → ℤ → (ℕ → ℕ → ℕ → ℤ) → ℕ → ℕ → ℕ → ℤ
 donor_at a speed cells i j k = donor_of speed (lower_by 1 a cells i j k) (cells i j k)
-
--- position p of n lies on the low side, where that is chosen, or on the high one, where that is
-abbrev pub is_on_side : ℕ → Bool → Bool → ℕ → Bool
-is_on_side n low high p = ((p == 0) && low) || ((p == n) && high)
 
 -- how a block is flowed through along an axis: at which level and speed, and which of its two sides are closed
 pub record Flow : Type 0 where

@@ -4,6 +4,7 @@ ghost use Rattle.amr_num.specs.Numbers.{Within, at};
 ghost use Rattle.amr_num.specs.declared.Axis.TheVariants.{X, Y, Z};
 ghost use Rattle.mesh_model.specs.Fields.ArrayPlaces.{IsRowWritten, IsSize, cell_extents, face_extents, number_at, row_of, size_of};
 ghost use Rattle.mesh_model.specs.Geometry.Coordinates as coordinates;
+ghost use Rattle.mesh_model.specs.Geometry.Places as places;
 ghost use Rattle.mesh_model.specs.Geometry.Places.{longer_on};
 ghost use Rattle.std.specs.Prelude.{◌≡◌, ℕ, ◌+◌, ◌*◌, ◌/◌, ◌%◌, ◌^◌, ◌<◌, ◌≤◌, length, unsigned_abs};
 ghost use Rattle.step_advect.specs.Fluxed as fluxed;
@@ -53,7 +54,7 @@ fn along(axis: Axis, i: usize, j: usize, k: usize) -> usize
 /// Whether the faces at a position lie on a closed side.
 #[inline]
 fn is_closed(n: usize, flow: &FlowAlong, position: usize) -> bool
-    ensures { result ≡ fluxed.is_on_side n flow.now.closed_low flow.now.closed_high position }
+    ensures { result ≡ places.is_on_side n flow.now.closed_low flow.now.closed_high position }
 {
     let low = position == 0;
     let high = position == n;

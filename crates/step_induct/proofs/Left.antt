@@ -20,7 +20,7 @@ use Rattle.mesh_model.proofs.FieldLemmas.LeafFaces.{view_of_leaf_face}
 use Rattle.mesh_model.proofs.FieldLemmas.Sums.{wrapped_inside}
 use Rattle.mesh_model.proofs.FieldLemmas.ValidGrid.{kinds}
 use Rattle.mesh_model.proofs.GeometryLemmas.ShapeLimits.{extent_some}
-use Rattle.step_induct.specs.Circling.{LessenedAreLeft, LessenedIsInducted, lessened}
+use Rattle.step_induct.specs.Circling.{LessenedAreHeld, LessenedIsInducted, lessened}
 use Rattle.step_induct.proofs.Held.{on_faces}
 
 -- a position of a block's faces and edges lies in the domain
@@ -56,17 +56,20 @@ face_position s X b i j k inside hi hj hk = position_inside s.rx s.n b.level b.x
 face_position s Y b i j k inside hi hj hk = position_inside s.ry s.n b.level b.y j inside.y (omega arith)
 face_position s Z b i j k inside hi hj hk = position_inside s.rz s.n b.level b.z k inside.z (omega arith)
 
-pub lessened_left : LessenedAreLeft
+pub lessened_held : LessenedAreHeld
 unfolding lessened
-lessened_left g field views a b faces arrays old new valid inside made holds edges = record {
-  at = λ i j k hi hj hk leaf.
-      let f = face_of a (canonical_on g.shape a (in_block g.shape.n b i j k)) in
-      let wide = wide_of g.shape valid.shape in
-      let canonical = named_canonical g.shape a (in_block g.shape.n b i j k) (extent_some valid.shape a b.level) (face_position g.shape a b i j k inside hi hj hk) in
-      made.written i j k hi hj hk
-      ∙ ap₂ (λ u v. u -ℤ v) (holds.at i j k hi hj hk ∙ view_of_leaf_face g (kinds g valid) valid.shape wide field f leaf) (on_faces g views b inside arrays edges i j k a hi hj hk)
-      ∙ sym (on_leaf_face g (λ h. field h -ℤ circulation g views h) f canonical leaf);
+lessened_held g field views a b faces arrays old new valid inside made holds edges = record {
+  at = λ i j k hi hj hk. made.written i j k hi hj hk ∙ ap₂ (λ u v. u -ℤ v) (holds.at i j k hi hj hk) (on_faces g views b inside arrays edges i j k a hi hj hk);
 }
 
 pub lessened_inducted : LessenedIsInducted
-lessened_inducted g field n = lessened_left g field (electromotive_force g field n)
+lessened_inducted g field n a b faces arrays old new valid inside made holds edges = record {
+  at = λ i j k hi hj hk leaf.
+      let views = electromotive_force g field n in
+      let f = face_of a (canonical_on g.shape a (in_block g.shape.n b i j k)) in
+      let wide = wide_of g.shape valid.shape in
+      let canonical = named_canonical g.shape a (in_block g.shape.n b i j k) (extent_some valid.shape a b.level) (face_position g.shape a b i j k inside hi hj hk) in
+      (lessened_held g field views a b faces arrays old new valid inside made holds edges).at i j k hi hj hk
+      ∙ ap (λ u. u -ℤ circulation g views f) (view_of_leaf_face g (kinds g valid) valid.shape wide field f leaf)
+      ∙ sym (on_leaf_face g (λ h. field h -ℤ circulation g views h) f canonical leaf);
+}

@@ -2,6 +2,5 @@ pub mod Rounds
 pub mod Held
 pub mod Forced
 pub mod Left
-pub mod Sides
 pub mod Upstream
 pub mod Lifted

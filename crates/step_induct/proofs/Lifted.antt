@@ -14,13 +14,13 @@ use Rattle.mesh_model.specs.Geometry.Blocks.{InDomain}
 use Rattle.mesh_model.specs.Geometry.Canonical.{canonical_on}
 use Rattle.mesh_model.specs.Geometry.Coordinates.{edge_of, extent, face_of, is_periodic, next, on, roots, side_index, side_kind, step, wrapped}
 use Rattle.mesh_model.specs.Geometry.Limits.{IsShape}
-use Rattle.mesh_model.specs.Geometry.Places.{in_block}
+use Rattle.mesh_model.specs.Geometry.Places.{in_block, is_on_side}
 use Rattle.mesh_model.specs.Geometry.Touch.{block_on}
 use Rattle.mesh_model.proofs.GeometryLemmas.OnAxes.{with_level}
 use Rattle.mesh_model.proofs.GeometryLemmas.ShapeLimits.{cells_some}
-use Rattle.step_induct.specs.Forces.{Flow, ForcesAreOfLeaves, IsFlowOf, force_from, is_closed_edge, is_closed_position, is_on_side, places_back}
+use Rattle.step_induct.specs.Forces.{Flow, ForcesAreOfLeaves, IsFlowOf, force_from, is_closed_edge, is_closed_position, places_back}
 use Rattle.step_induct.proofs.Forced.{edge_inside}
-use Rattle.step_induct.proofs.Sides.{on_domain_side}
+use Rattle.mesh_model.proofs.GeometryLemmas.Sides.{on_domain_side}
 use Rattle.step_induct.proofs.Upstream.{closed_named, first_there, second_there, upstream_places}
 
 some_guards : {s : Shape} → IsShape s → 1 ≤ s.g

@@ -15,12 +15,13 @@ use Rattle.mesh_model.specs.Geometry.Coordinates.{axis_index, face_of, next, ste
 use Rattle.mesh_model.specs.Geometry.Places.{in_block, longer_across, longer_on}
 use Rattle.mesh_model.specs.Tree.Kinds.{Grid, is_leaf_face}
 use Rattle.mesh_model.specs.Tree.ValidGrid.{Valid}
-use Rattle.mesh_model.specs.Fields.ArrayPlaces.{HoldsEdgeField, HoldsFaceField, HoldsFaces, IsWritten, edge_extents, face_extents, number_at, size_of}
+use Rattle.mesh_model.specs.Fields.ArrayPlaces.{HoldsEdgeField, HoldsFaceField, HoldsFaces, HoldsLeafFaces, IsWritten, edge_extents, face_extents, number_at, size_of}
 use Rattle.mesh_model.specs.Fields.Advect.{Speeds}
 use Rattle.mesh_model.specs.Fields.Circulation.{circulation}
 use Rattle.mesh_model.specs.Fields.FaceSplits.{face_box}
 use Rattle.mesh_model.specs.Fields.FinePlaces.{edges_in, faces_in}
-use Rattle.mesh_model.specs.Fields.Induct.{electromotive_force, inducted, less_circulation}
+use Rattle.mesh_model.specs.Fields.Induct.{electromotive_force, inducted}
+use Rattle.mesh_model.specs.Fields.Views.{face_view}
 use Rattle.step_induct.specs.declared.circling.RangeAt.{RangeAt}
 
 -- the numbers of a block's edges along each axis, by places in the block
@@ -92,19 +93,13 @@ CirculationsAreHeld = (g : Grid) (field : EdgeAt → ℤ) (a : Axis) (b : BlockA
     IsCirculated g.shape.n g.shape.g a arrays old new → ((c : Axis) → HoldsEdgeField g field c b (edges_in g c (arrays c))) →
     HoldsFaceField g (circulation g field) a b (faces_in g a new)
 
--- a block has a field on the leaf faces among its faces normal to an axis; on its other faces it may have anything
-pub record HoldsLeafFaces (g : Grid) (field : FaceAt → ℤ) (a : Axis) (b : BlockAt) (numbers : ℕ → ℕ → ℕ → ℤ) : Type 0 where
-  pub at : (i j k : ℕ) → i < longer_on a X g.shape.n → j < longer_on a Y g.shape.n → k < longer_on a Z g.shape.n →
-      let f = face_of a (canonical_on g.shape a (in_block g.shape.n b i j k)) in
-      is_leaf_face g f ≡ true → numbers (g.shape.g + i) (g.shape.g + j) (g.shape.g + k) ≡ field f
-
--- and where circulations were taken from the views of a field on faces, its leaf faces have what is left of the field
-abbrev pub LessenedAreLeft : Type 0
-LessenedAreLeft = (g : Grid) (field : FaceAt → ℤ) (views : EdgeAt → ℤ) (a : Axis) (b : BlockAt) (faces : List ℤ) (arrays : Axis → List ℤ) (old new : List ℤ) → Valid g → InDomain g.shape b →
+-- and where these circulations were taken from the views of a field on faces, they have what is left of the views
+abbrev pub LessenedAreHeld : Type 0
+LessenedAreHeld = (g : Grid) (field : FaceAt → ℤ) (views : EdgeAt → ℤ) (a : Axis) (b : BlockAt) (faces : List ℤ) (arrays : Axis → List ℤ) (old new : List ℤ) → Valid g → InDomain g.shape b →
     IsLessened g.shape.n g.shape.g a faces arrays old new → HoldsFaces g field a b (faces_in g a faces) → ((c : Axis) → HoldsEdgeField g views c b (edges_in g c (arrays c))) →
-    HoldsLeafFaces g (less_circulation g field views) a b (faces_in g a new)
+    HoldsFaceField g (λ f. face_view g field f -ℤ circulation g views f) a b (faces_in g a new)
 
--- so with electromotive forces on its edges they have what the mesh has after induct
+-- so with electromotive forces on the edges the leaf faces among them have what the mesh has after induct
 abbrev pub LessenedIsInducted : Type 0
 LessenedIsInducted = (g : Grid) (field : FaceAt → ℤ) (n : Speeds) (a : Axis) (b : BlockAt) (faces : List ℤ) (arrays : Axis → List ℤ) (old new : List ℤ) → Valid g → InDomain g.shape b →
     IsLessened g.shape.n g.shape.g a faces arrays old new → HoldsFaces g field a b (faces_in g a faces) →

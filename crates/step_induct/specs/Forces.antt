@@ -9,7 +9,7 @@ use Rattle.mesh_model.specs.declared.geometry.Shape.{Shape}
 use Rattle.mesh_model.specs.Geometry.Blocks.{InDomain}
 use Rattle.mesh_model.specs.Geometry.Coordinates.{next, roots, side_index, side_kind, step}
 use Rattle.mesh_model.specs.Geometry.Limits.{IsShape}
-use Rattle.mesh_model.specs.Geometry.Places.{longer_across}
+use Rattle.mesh_model.specs.Geometry.Places.{is_on_side, longer_across}
 use Rattle.mesh_model.specs.Geometry.Touch.{block_on}
 use Rattle.mesh_model.specs.Tree.Kinds.{Grid}
 use Rattle.mesh_model.specs.Fields.Advect.{Speeds, is_closed_kind, speed, three}
@@ -43,10 +43,6 @@ flow_of f = record { level = f.level; speeds = three f.speeds; closed = f.closed
 -- whether a side is closed
 abbrev pub is_closed_side : List Bool → ℕ → Bool
 is_closed_side closed q = slice_index_or closed q false
-
--- position p of n lies on the low side, where that is closed, or on the high one, where that is
-abbrev pub is_on_side : ℕ → Bool → Bool → ℕ → Bool
-is_on_side n low high p = ((p == 0) && low) || ((p == n) && high)
 
 -- a position on an axis of a block lies on a closed side
 abbrev pub is_closed_position : ℕ → List Bool → Axis → ℕ → Bool

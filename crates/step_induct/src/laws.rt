@@ -1,6 +1,6 @@
 //! Laws of circulations and electromotive forces: each is the contract of a function that does nothing.
 
-ghost use Rattle.step_induct.specs.Circling.{CirculationsAreHeld, LessenedAreLeft, LessenedIsInducted};
+ghost use Rattle.step_induct.specs.Circling.{CirculationsAreHeld, LessenedAreHeld, LessenedIsInducted};
 ghost use Rattle.step_induct.specs.Forces.{ForcesAreOfLeaves};
 
 /// Where a block's edges have a field on edges, its faces that were made of them have the field's circulations.
@@ -8,11 +8,11 @@ pub fn block_circulations_are_held()
     ensures { CirculationsAreHeld }
 {}
 
-/// Where a block's faces have the views of a field on faces and its edges a field on edges, the leaf faces that lost the
-/// circulations of the edges have what the mesh is left with. So with the electromotive forces on the edges they have what the
-/// mesh has after induct.
+/// Where a block's faces have the views of a field on faces and its edges a field on edges, the faces that lost the
+/// circulations of the edges have the views without the field's circulations. So with the electromotive forces on the edges
+/// the leaf faces among them have what the mesh has after induct.
 pub fn block_steps_are_inducts()
-    ensures left { LessenedAreLeft }
+    ensures held { LessenedAreHeld }
     ensures inducted { LessenedIsInducted }
 {}
 

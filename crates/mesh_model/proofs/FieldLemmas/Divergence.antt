@@ -80,16 +80,17 @@ module _ (g : Grid) (valid : Valid g) where
   uniform_balances b = record { at_leaf = λ c t. let i = kinds.leaf_range c t in net_of_new (level_field b) (level_adds b) c i t ∙ level_net b c }
 
   module _ (faces : FaceAt → ℤ) (edges : EdgeAt → ℤ) where
-    turned : FaceAt → ℤ
+    -- what is left of the views of a field on faces without the circulations of edge numbers
+    pub turned : FaceAt → ℤ
     turned f = face_view g faces f -ℤ circulation g (edge_view g edges) f
 
-    turned_adds : (f : FaceAt) → turned f ≡ sum_below 4 (λ q. turned (sub_face f q))
+    pub turned_adds : (f : FaceAt) → turned f ≡ sum_below 4 (λ q. turned (sub_face f q))
     unfolding turned
     turned_adds f =
         ap₂ (λ a b. a -ℤ b) (face_adds g kinds valid.shape wide faces f) (circulation_adds g kinds valid.shape wide edges f)
         ∙ sym (sum_below_sub 4 (λ q. face_view g faces (sub_face f q)) (λ q. circulation g (edge_view g edges) (sub_face f q)))
 
-    turned_leaf : (f : FaceAt) → is_canonical g.shape f ≡ true → is_leaf_face g f ≡ true → less_circulation g faces (edge_view g edges) f ≡ turned f
+    pub turned_leaf : (f : FaceAt) → is_canonical g.shape f ≡ true → is_leaf_face g f ≡ true → less_circulation g faces (edge_view g edges) f ≡ turned f
     unfolding turned
     turned_leaf f c t = on_leaf_face g (λ x. faces x -ℤ circulation g (edge_view g edges) x) f c t ∙ ap (λ a. a -ℤ circulation g (edge_view g edges) f) (sym (view_of_leaf_face g kinds valid.shape wide faces f t))
 

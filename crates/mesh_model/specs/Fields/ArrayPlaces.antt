@@ -1,6 +1,6 @@
 -- The arrays of a block: which coordinate stands at which place, and what an array holds of a field. A place has three numbers, one an axis, which
 -- count guard cells too; an array lists its places x fastest, then y, then z.
-use Rattle.std.specs.Prelude.{◌≡◌, ℕ, ◌+◌, ◌*◌, ◌/◌, ◌%◌, ◌<◌, ◌≤◌, ◌⊎◌, List, length, ℤ, pos, ◌+ℤ◌, unsigned_abs, slice_index_or}
+use Rattle.std.specs.Prelude.{◌≡◌, ℕ, ◌+◌, ◌*◌, ◌/◌, ◌%◌, ◌<◌, ◌≤◌, ◌⊎◌, true, List, length, ℤ, pos, ◌+ℤ◌, unsigned_abs, slice_index_or}
 use Rattle.amr_num.specs.declared.Axis.{Axis}
 use Rattle.amr_num.specs.declared.Axis.TheVariants.{X, Y, Z}
 use Rattle.amr_num.specs.declared.BlockAt.{BlockAt}
@@ -12,7 +12,7 @@ use Rattle.mesh_model.specs.declared.fields.values.Var.{Var}
 use Rattle.mesh_model.specs.declared.fields.values.Var.TheVariants.{Cell, Face, Edge, CellWork, FaceWork, EdgeWork}
 use Rattle.mesh_model.specs.Geometry.Coordinates.{face_of, edge_of, next}
 use Rattle.mesh_model.specs.Geometry.Outside.{inside_cell, inside_face, inside_edge}
-use Rattle.mesh_model.specs.Tree.Kinds.{Grid}
+use Rattle.mesh_model.specs.Tree.Kinds.{Grid, is_leaf_face}
 use Rattle.mesh_model.specs.Geometry.Places.{guard_index, in_block, longer_across, longer_on}
 use Rattle.mesh_model.specs.Geometry.Canonical.{canonical_on}
 use Rattle.mesh_model.specs.Fields.Views.{cell_view, face_view, edge_view}
@@ -166,6 +166,13 @@ pub record HoldsFaceField (g : Grid) (field : FaceAt → ℤ) (a : Axis) (b : Bl
 abbrev pub HoldsFaces : Grid → (FaceAt → ℤ) → Axis → BlockAt → (ℕ → ℕ → ℕ → ℤ) → Type 0
 HoldsFaces g field a b numbers = HoldsFaceField g (face_view g field) a b numbers
 
+-- a field on the leaf faces among them; on its other faces, those with finer leaves beside them, the block may have anything
+pub record HoldsLeafFaces (g : Grid) (field : FaceAt → ℤ) (a : Axis) (b : BlockAt) (numbers : ℕ → ℕ → ℕ → ℤ) : Type 0 where
+  pub at : (i j k : ℕ) → i < longer_on a X g.shape.n → j < longer_on a Y g.shape.n → k < longer_on a Z g.shape.n →
+      let f = face_of a (canonical_on g.shape a (in_block g.shape.n b i j k)) in
+      is_leaf_face g f ≡ true → numbers (g.shape.g + i) (g.shape.g + j) (g.shape.g + k) ≡ field f
+
+-- the views of a field on all its places, guards included
 pub record HoldsFaceGuards (g : Grid) (field : FaceAt → ℤ) (a : Axis) (b : BlockAt) (numbers : ℕ → ℕ → ℕ → ℤ) : Type 0 where
   pub at : (i j k : ℕ) → let e = face_extents g.shape.n g.shape.g a in i < e.x → j < e.y → k < e.z → numbers i j k ≡ face_view g field (face_there g.shape a b i j k)
 

@@ -1,5 +1,5 @@
 -- The places of a block: its cells, its faces and its edges, x fastest, then y, then z.
-use Rattle.std.specs.Prelude.{ℕ, suc, ◌+◌, ◌*◌, ℤ, List, map, flat_map, pos, ◌-ℤ◌}
+use Rattle.std.specs.Prelude.{ℕ, suc, ◌+◌, ◌*◌, Bool, ◌&&◌, ◌||◌, ◌==◌, ℤ, List, map, flat_map, pos, ◌-ℤ◌}
 use Rattle.std.specs.List.{range_with_len}
 use Rattle.amr_num.specs.declared.Axis.{Axis}
 use Rattle.amr_num.specs.declared.Axis.TheVariants.{X, Y, Z}
@@ -62,3 +62,7 @@ longer_across Z Z n = n
 -- the coordinate on an axis of the i-th place, from 0, of a block with its g guards, where the block is the b-th and has n cells
 abbrev pub guard_index : ℕ → ℕ → ℕ → ℕ → ℤ
 guard_index n g b i = pos (n * b + i) -ℤ pos g
+
+-- position p of n, counted from 0 on the low side, lies on that side, where it is chosen, or on the high one, where that is
+abbrev pub is_on_side : ℕ → Bool → Bool → ℕ → Bool
+is_on_side n low high p = ((p == 0) && low) || ((p == n) && high)

@@ -1,7 +1,7 @@
 use Rattle.std.proofs.Common.{◌≡◌, ◌+◌, ◌^◌, ◌+ℤ◌, ◌-ℤ◌, ap, ap₂, arith, of_z, rules, to_z, w64, ◌∙◌}
 use Rattle.amr_num.specs.Numbers.{at}
 use Rattle.amr_engine.specs.Netting.{counted}
-use Rattle.amr_engine.proofs.Machine.{wide}
+use Rattle.mesh_steps.proofs.Machine.{wide}
 use Rattle.amr_engine.proofs.Netted.{one_more}
 use Rattle.amr_engine.proofs.netting.count_row.Goals as goal
 

@@ -5,9 +5,9 @@ use Rattle.mesh_model.specs.Tree.Order.{Sorted, nodes}
 use Rattle.mesh_model.specs.Tree.ValidGrid.{Valid}
 use Rattle.amr_num.specs.Numbers.{sum_below}
 use Rattle.amr_engine.specs.Netting.{counted_cell}
-use Rattle.amr_engine.specs.Totals.{node_sum}
 use Rattle.amr_engine.proofs.Netted.{all_counted}
 use Rattle.amr_engine.proofs.netting.net_fluxes.Goals as goal
+use Rattle.rank_world.specs.NodeSums.{node_sum}
 
 pub returns-clause-count : goal.returns-clause-count
 returns-clause-count g c field holds =

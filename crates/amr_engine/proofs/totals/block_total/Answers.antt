@@ -3,7 +3,7 @@ use Rattle.std.specs.Int.{w128}
 use Rattle.amr_num.specs.Numbers.{sum_below}
 use Rattle.mesh_model.specs.Fields.ArrayPlaces.{cell_extents, number_at}
 use Rattle.mesh_model.specs.Fields.Totals.{box_sum}
-use Rattle.amr_engine.proofs.Machine.{more_of, more_small}
+use Rattle.mesh_steps.proofs.Machine.{more_of, more_small}
 use Rattle.amr_engine.proofs.totals.block_total.Goals as goal
 
 pub loop-k-preserved : goal.loop-k-preserved

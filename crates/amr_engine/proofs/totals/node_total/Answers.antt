@@ -7,9 +7,9 @@ use Rattle.mesh_model.specs.Fields.Totals.{block_sum, box_sum}
 use Rattle.mesh_model.specs.Tree.Kinds.{Grid, is_leaf_block}
 use Rattle.mesh_model.specs.Tree.ValidGrid.{Valid}
 use Rattle.rank_world.specs.Holding.{cell_array, numbers_of}
-use Rattle.amr_engine.proofs.Machine.{wide}
-use Rattle.amr_engine.proofs.Summed.{leaf_sum_is}
+use Rattle.mesh_steps.proofs.Machine.{wide}
 use Rattle.amr_engine.proofs.totals.node_total.Goals as goal
+use Rattle.rank_world.proofs.NodeSums.{leaf_sum_is}
 
 pub returns-then-is_leaf-clause-value : goal.returns-then-is_leaf-clause-value
 returns-then-is_leaf-clause-value g c content holds =

@@ -6,10 +6,10 @@ use Rattle.mesh_model.specs.Tree.Kinds.{Grid}
 use Rattle.mesh_model.specs.Tree.Order.{nodes}
 use Rattle.mesh_model.specs.Tree.ValidGrid.{Valid}
 use Rattle.block_tree.proofs.Numbers.{most_few}
-use Rattle.amr_engine.specs.Totals.{node_sum}
-use Rattle.amr_engine.proofs.Machine.{more_of, more_small}
-use Rattle.amr_engine.proofs.Summed.{node_sums}
+use Rattle.mesh_steps.proofs.Machine.{more_of, more_small}
 use Rattle.amr_engine.proofs.totals.total.Goals as goal
+use Rattle.rank_world.specs.NodeSums.{node_sum}
+use Rattle.rank_world.proofs.NodeSums.{node_sums}
 
 pub loop-node-preserved : goal.loop-node-preserved
 loop-node-preserved g c =

@@ -2,8 +2,8 @@ use Rattle.std.proofs.Common.{◌≡◌, ◌*◌, ◌^◌, ℤ}
 use Rattle.amr_num.specs.Numbers.{Within, sum_below}
 use Rattle.amr_num.specs.declared.CellAt.{CellAt}
 use Rattle.rank_world.specs.Holding.{LeavesHold}
-use Rattle.amr_engine.specs.Totals.{node_sum}
 use Rattle.amr_engine.proofs.totals.total.Given as goal
+use Rattle.rank_world.specs.NodeSums.{node_sum}
 
 abbrev pub invariant-loop-node : goal.invariant-loop-node
 invariant-loop-node g l = record {

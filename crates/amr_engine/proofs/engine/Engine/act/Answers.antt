@@ -1,7 +1,7 @@
 use Rattle.std.proofs.Common.{◌^◌, Ok, arith, refl, sym, ap, subst, ◌∙◌}
 use Rattle.mesh_model.specs.Run.Texts.{mesh_text, size_text}
 use Rattle.mesh_model.specs.Run.TreeText.{tree_text}
-use Rattle.mesh_model.specs.declared.language.script.Command.TheVariants.{Advect, Curl, DerefineWhere, EdgeSet, FaceSet, FillAll, FillBox, MarkDerefine, MarkRefine, NetFlux, PrintMesh, PrintSize, PrintTree, PrintVar, RefineWhere, Regrid, Total, Uniform}
+use Rattle.mesh_model.specs.declared.language.script.Command.TheVariants.{Advect, Curl, DerefineWhere, EdgeSet, FaceSet, FillAll, FillBox, Induct, MarkDerefine, MarkRefine, NetFlux, PrintMesh, PrintSize, PrintTree, PrintVar, RefineWhere, Regrid, Total, Uniform}
 use Rattle.amr_num.proofs.Machine.{kept}
 use Rattle.mesh_model.specs.Fields.Setting.{derefine_where, refine_where}
 use Rattle.mesh_model.specs.Language.Commands.{IsCommandOf}
@@ -77,6 +77,10 @@ returns-in-EdgeSet-clause-acts g c =
 pub returns-in-Curl-clause-acts : goal.returns-in-Curl-clause-acts
 returns-in-Curl-clause-acts g c =
     acts_changing c.curl.result (plain c.args.self.now) (plain c.curl.new.self) c.args.command Curl (g.K.Sink.taken c.args.sink.now) (g.K.Sink.faults c.args.sink.now) c.in-Curl.is (λ sink. cc) c.curl.ensures.changes
+
+pub returns-in-Induct-clause-acts : goal.returns-in-Induct-clause-acts
+returns-in-Induct-clause-acts g c =
+    acts_changing c.induct.result (plain c.args.self.now) (plain c.induct.new.self) c.args.command (Induct c.in-Induct.speeds) (g.K.Sink.taken c.args.sink.now) (g.K.Sink.faults c.args.sink.now) c.in-Induct.is (λ sink. cc) c.induct.ensures.changes
 
 pub returns-in-Advect-clause-acts : goal.returns-in-Advect-clause-acts
 returns-in-Advect-clause-acts g c =

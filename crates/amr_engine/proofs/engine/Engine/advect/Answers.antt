@@ -3,17 +3,17 @@ use Rattle.mesh_model.specs.declared.language.script.Command.TheVariants as comm
 use Rattle.mesh_model.specs.Fields.Advect.{advect, three}
 use Rattle.mesh_model.specs.Fields.Valid.{ValidMesh}
 use Rattle.amr_engine.specs.EngineMesh.{IsLaidOut, mesh_of}
-use Rattle.amr_engine.specs.Stepping.{Steps}
+use Rattle.mesh_steps.specs.Stepping.{Steps}
 use Rattle.amr_engine.specs.Stopping.{Changes}
 use Rattle.amr_engine.proofs.Advanced.{advect_allowed, advect_is, advect_laid, advect_valid, hindered, read_is, read_small, ready, small_out}
-use Rattle.amr_engine.proofs.Machine.{wide}
+use Rattle.mesh_steps.proofs.Machine.{wide}
 use Rattle.amr_engine.proofs.Made.{laid_same, of_now}
 use Rattle.amr_engine.proofs.ValidOut.{mesh_out}
-use Rattle.amr_engine.proofs.StepMade.{steps_of}
+use Rattle.mesh_steps.proofs.StepMade.{steps_of}
 use Rattle.amr_engine.proofs.engine.Engine.advect.Goals as goal
 
-pub step-requires : goal.step-requires
-step-requires g c =
+pub advect-requires : goal.advect-requires
+advect-requires g c =
     let self = c.args.self.now in
     let m = mesh_of self.names self.world self.outs.items self.marks in
     let valid = mesh_out m self.valid in (
@@ -38,14 +38,14 @@ invariant_of-self g c =
     let self = c.args.self.now in
     let m = mesh_of self.names self.world self.outs.items self.marks in
     let valid = mesh_out m self.valid in
-    let new = c.step.new.world in
-    let told = c.step.ensures.told in
-    let steps = c.step.ensures.steps m valid (of_now self.names self.world self.outs.items self.marks self.laid_out valid) (read_is self.names self.world self.outs.items self.marks self.laid_out valid c.args.var c.requires.variable c.index-out.result.now c.index-out.ensures) in
+    let new = c.advect.new.world in
+    let told = c.advect.ensures.told in
+    let steps = c.advect.ensures.steps m valid (of_now self.names self.world self.outs.items self.marks self.laid_out valid) (read_is self.names self.world self.outs.items self.marks self.laid_out valid c.args.var c.requires.variable c.index-out.result.now c.index-out.ensures) in
     let done : Steps m c.args.var c.args.speeds new (Ok c.in-Ok.out) = subst (Steps m c.args.var c.args.speeds new) c.in-Ok.is steps in
     let kept = wide c.in-Ok.out (2 ^ 100) (small_out self.names self.world self.outs.items self.marks self.laid_out valid c.args.var c.requires.variable c.args.speeds c.requires.speeds new told c.in-Ok.out done) (omega arith) in
     let is = advect_is self.names self.world self.outs.items self.marks self.laid_out valid c.args.var c.requires.variable c.args.speeds c.requires.speeds new told c.in-Ok.out done in
     record {
-      fit = c.step.ensures.fit;
+      fit = c.advect.ensures.fit;
       laid_out = subst (λ z. IsLaidOut self.names new (set self.outs.items c.args.var z) self.marks) (sym kept) (advect_laid self.names self.world self.outs.items self.marks self.laid_out valid c.args.var c.requires.variable c.args.speeds c.requires.speeds new told c.in-Ok.out done);
       valid = ∣ subst (λ z. ValidMesh (mesh_of self.names new (set self.outs.items c.args.var z) self.marks)) (sym kept) (subst ValidMesh (sym is) (advect_valid self.names self.world self.outs.items self.marks self.laid_out valid c.args.var c.requires.variable c.args.speeds c.requires.speeds new told c.in-Ok.out done)) ∣₁;
     }
@@ -55,12 +55,12 @@ invariant_of-self-in-Err-1 g c =
     let self = c.args.self.now in
     let m = mesh_of self.names self.world self.outs.items self.marks in
     let valid = mesh_out m self.valid in
-    let new = c.step.new.world in
-    let told = c.step.ensures.told in
-    let steps = c.step.ensures.steps m valid (of_now self.names self.world self.outs.items self.marks self.laid_out valid) (read_is self.names self.world self.outs.items self.marks self.laid_out valid c.args.var c.requires.variable c.index-out.result.now c.index-out.ensures) in
+    let new = c.advect.new.world in
+    let told = c.advect.ensures.told in
+    let steps = c.advect.ensures.steps m valid (of_now self.names self.world self.outs.items self.marks self.laid_out valid) (read_is self.names self.world self.outs.items self.marks self.laid_out valid c.args.var c.requires.variable c.index-out.result.now c.index-out.ensures) in
     let told_stop = hindered self.names self.world self.outs.items self.marks self.laid_out valid c.args.var c.requires.variable c.args.speeds c.requires.speeds new told c.in-Err.hindrance (subst (Steps m c.args.var c.args.speeds new) c.in-Err.is steps) in
     record {
-      fit = c.step.ensures.fit;
+      fit = c.advect.ensures.fit;
       laid_out = laid_same self.names self.world self.outs.items self.marks self.laid_out valid new told (steps_of m c.args.var c.args.speeds new c.in-Err.hindrance (subst (Steps m c.args.var c.args.speeds new) c.in-Err.is steps));
       valid = ∣ subst ValidMesh (sym told_stop.1) valid ∣₁;
     }
@@ -70,9 +70,9 @@ returns-in-Ok-clause-changes g c =
     let self = c.args.self.now in
     let m = mesh_of self.names self.world self.outs.items self.marks in
     let valid = mesh_out m self.valid in
-    let new = c.step.new.world in
-    let told = c.step.ensures.told in
-    let steps = c.step.ensures.steps m valid (of_now self.names self.world self.outs.items self.marks self.laid_out valid) (read_is self.names self.world self.outs.items self.marks self.laid_out valid c.args.var c.requires.variable c.index-out.result.now c.index-out.ensures) in
+    let new = c.advect.new.world in
+    let told = c.advect.ensures.told in
+    let steps = c.advect.ensures.steps m valid (of_now self.names self.world self.outs.items self.marks self.laid_out valid) (read_is self.names self.world self.outs.items self.marks self.laid_out valid c.args.var c.requires.variable c.index-out.result.now c.index-out.ensures) in
     let done : Steps m c.args.var c.args.speeds new (Ok c.in-Ok.out) = subst (Steps m c.args.var c.args.speeds new) c.in-Ok.is steps in
     let kept = wide c.in-Ok.out (2 ^ 100) (small_out self.names self.world self.outs.items self.marks self.laid_out valid c.args.var c.requires.variable c.args.speeds c.requires.speeds new told c.in-Ok.out done) (omega arith) in (
       advect_allowed self.names self.world self.outs.items self.marks self.laid_out valid c.args.var c.requires.variable c.args.speeds c.requires.speeds new told c.in-Ok.out done,
@@ -84,8 +84,8 @@ returns-in-Err-clause-changes g c =
     let self = c.args.self.now in
     let m = mesh_of self.names self.world self.outs.items self.marks in
     let valid = mesh_out m self.valid in
-    let new = c.step.new.world in
-    let told = c.step.ensures.told in
-    let steps = c.step.ensures.steps m valid (of_now self.names self.world self.outs.items self.marks self.laid_out valid) (read_is self.names self.world self.outs.items self.marks self.laid_out valid c.args.var c.requires.variable c.index-out.result.now c.index-out.ensures) in
+    let new = c.advect.new.world in
+    let told = c.advect.ensures.told in
+    let steps = c.advect.ensures.steps m valid (of_now self.names self.world self.outs.items self.marks self.laid_out valid) (read_is self.names self.world self.outs.items self.marks self.laid_out valid c.args.var c.requires.variable c.index-out.result.now c.index-out.ensures) in
     let told_stop = hindered self.names self.world self.outs.items self.marks self.laid_out valid c.args.var c.requires.variable c.args.speeds c.requires.speeds new told c.in-Err.hindrance (subst (Steps m c.args.var c.args.speeds new) c.in-Err.is steps) in
     subst (λ cause. Changes (Err cause) m (commands.Advect c.args.var c.args.speeds) (mesh_of self.names new self.outs.items self.marks)) (sym c.of_advect.ensures) told_stop

@@ -5,7 +5,7 @@ use Rattle.guard_fill.specs.Restricting.{IsGroupOf}
 use Rattle.rank_world.specs.Holding.{IsOfMesh, IsOfValidMesh}
 use Rattle.amr_engine.specs.EngineMesh.{mesh_of}
 use Rattle.amr_engine.specs.Guards.{field_of}
-use Rattle.amr_engine.proofs.Guarded.{guards_stay, guards_told, mesh_there, parents_stay, parents_told}
+use Rattle.mesh_steps.proofs.Guarded.{guards_stay, guards_told, mesh_there, parents_stay, parents_told}
 use Rattle.amr_engine.proofs.Made.{field_held, group_counted, laid_same, of_now, same_mesh}
 use Rattle.amr_engine.proofs.ValidOut.{mesh_out}
 use Rattle.amr_engine.proofs.engine.Engine.fill_guards.Goals as goal

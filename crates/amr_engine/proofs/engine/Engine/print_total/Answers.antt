@@ -6,7 +6,7 @@ use Rattle.mesh_model.specs.Run.Texts.{text_line}
 use Rattle.mesh_model.specs.Fields.Totals as totals
 use Rattle.amr_report.specs.Printing.{Prints}
 use Rattle.amr_engine.specs.EngineMesh.{mesh_of}
-use Rattle.amr_engine.proofs.Machine.{kept_128, wide}
+use Rattle.mesh_steps.proofs.Machine.{kept_128, wide}
 use Rattle.amr_engine.proofs.Made.{out_now, out_small, total_now}
 use Rattle.amr_engine.proofs.ValidOut.{mesh_out}
 use Rattle.amr_engine.proofs.engine.Engine.print_total.Goals as goal

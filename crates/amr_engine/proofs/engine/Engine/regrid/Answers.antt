@@ -14,7 +14,7 @@ use Rattle.amr_engine.specs.EngineMesh.{mesh_of}
 use Rattle.amr_engine.specs.Stopping.{MayStop, stopped_by}
 use Rattle.mesh_model.specs.declared.language.script.Command.TheVariants as commands
 use Rattle.amr_engine.proofs.Made.{marks_of, may_move, of_now, plan_now, regrid_allowed, regrid_is, regrid_laid, regrid_room, regrid_shape, regrid_stops, regrid_valid}
-use Rattle.amr_engine.proofs.Ranged.{leaves_in_range}
+use Rattle.mesh_steps.proofs.Ranged.{leaves_in_range}
 use Rattle.amr_engine.proofs.ValidOut.{mesh_out}
 use Rattle.amr_engine.proofs.engine.Engine.regrid.Goals as goal
 

@@ -1,0 +1,16 @@
+pub mod Machine
+pub mod Ranged
+pub mod Kept
+pub mod Flown
+pub mod Blown
+pub mod Advected
+pub mod StepMade
+pub mod Settled
+pub mod Stepped
+pub mod Given
+pub mod StepWalk
+pub mod MeshSet
+pub mod SmallArrays
+pub mod Guarded
+pub mod Forced
+pub mod Driven
