@@ -22,3 +22,11 @@ pub mod SideFaces
 pub mod RoundBlocks
 pub mod RoundEdges
 pub mod Parts
+pub mod Ordering
+pub mod Forests
+pub mod FlagTrees
+pub mod Visits
+pub mod Toward
+pub mod Rules
+pub mod Surrounding
+pub mod ByNumber

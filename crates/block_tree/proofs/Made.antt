@@ -42,15 +42,15 @@ root_nodes (b ∷ bs) h =
     let here : begun_at b.level b ≡ b ∷ [] = ap (λ l. begun_at l b) (h b (inl refl)) in
     ap (λ u. b ∷ u) (root_nodes bs (λ c i. h c (inr i))) ∙ ap (λ u. u ++ nodes bs) (sym here)
 
-module _ (s : Shape) (shape : IsShape s) (all : List BlockAt) (whole : all ≡ start_leaves s) where
-  abbrev start_valid : ValidMesh (start_mesh s no_names)
-  start_valid = start_mesh_valid s no_names shape (omega arith)
+abbrev pub start_valid : (s : Shape) → IsShape s → ValidMesh (start_mesh s no_names)
+start_valid s shape = start_mesh_valid s no_names shape (omega arith)
 
+module _ (s : Shape) (shape : IsShape s) (all : List BlockAt) (whole : all ≡ start_leaves s) where
   as_nodes : all ≡ nodes (start_leaves s)
   as_nodes = whole ∙ root_nodes (start_leaves s) (λ b i. (start_root s b i).1)
 
   pub start_made : grid_in s all ≡ start_grid s
-  start_made = made_grid (start_grid s) start_valid.grid start_valid.order all as_nodes
+  start_made = made_grid (start_grid s) (start_valid s shape).grid (start_valid s shape).order all as_nodes
 
   pub start_tree : IsTree s all
-  start_tree = made_tree (start_grid s) start_valid.grid start_valid.order all as_nodes start_valid.nodes
+  start_tree = made_tree (start_grid s) (start_valid s shape).grid (start_valid s shape).order all as_nodes (start_valid s shape).nodes

@@ -4,11 +4,12 @@ use Rattle.std.specs.Prelude.{option_map}
 use Rattle.std.proofs.Math.Nat.{mul-le-mul_right, mul_assoc, mul-pos}
 use Rattle.std.proofs.Math.Pow.{pow-add}
 use Rattle.std.proofs.lemmas.Bool.{cases_lt, le-ltb}
+use Rattle.std.proofs.lemmas.Nat.{pow_pos}
 use Rattle.mesh_model.specs.Geometry.Coordinates.{above, below, wrapped}
 use Rattle.mesh_model.specs.Geometry.Touch.{high_end, low_end}
 use Rattle.mesh_model.proofs.FieldLemmas.Beside.{Follows, above_in, above_out, before_after, below_follows}
 use Rattle.mesh_model.proofs.FieldLemmas.Sums.{wrapped_end, wrapped_inside}
-use Rattle.mesh_model.proofs.TreeLemmas.Touching.{Meet, meet_times}
+use Rattle.mesh_model.proofs.TreeLemmas.Touching.{Meet, meet_over, meet_times}
 use Rattle.block_tree.specs.Beside.{beside_on}
 use Rattle.block_tree.specs.SideFaces.{side_half, side_position}
 
@@ -31,7 +32,7 @@ last_cell : (e n : ℕ) → 0 < e → 0 < n → e * n - 1 ≡ n * (e - 1) + (n -
 last_cell zero n he hn = absurd (omega arith)
 last_cell (suc e) n he hn = let one : suc e - 1 ≡ e = omega arith in rw one (omega arith)
 
-at_far_end : (e q : ℕ) → 0 < e → q ≡ e → above true e q ≡ Some 0
+pub at_far_end : (e q : ℕ) → 0 < e → q ≡ e → above true e q ≡ Some 0
 at_far_end e q some is = let far : e ≤ q = omega arith in rw (le-ltb q e far) refl
 
 -- ---- the coordinate beside
@@ -58,6 +59,13 @@ neighbours p true e b d h is = elim (cases_lt (suc b) e) [
   | inr more ↦ follows_at_end p e b d (omega arith) is
 ]
 
+-- blocks side by side meet
+pub side_by_side : (p high : Bool) (e b d : ℕ) → Neighbours p e high b d → Meet p e b (suc b) d (suc d)
+side_by_side p false e b d (inl is) = inl (omega arith, omega arith)
+side_by_side p false e b d (inr (t, first, end)) = inr (t, inl (omega arith))
+side_by_side p true e b d (inl is, within) = inl (omega arith, omega arith)
+side_by_side p true e b d (inr (t, first, end), within) = inr (t, inr (omega arith))
+
 -- beside the half of d towards b stands the half of b towards d
 pub back : (p high : Bool) (e b d : ℕ) → b < e → Neighbours p e high b d → beside_on p (not high) (2 * e) (2 * d + side_half (not high)) ≡ Some (2 * b + side_half high)
 back p false e b d h (inl is) = let q : suc (2 * d + 1) ≡ 2 * b + 0 = omega arith in ap (above p (2 * e)) q ∙ above_in p (2 * e) (2 * b + 0) (omega arith)
@@ -79,13 +87,19 @@ halves_meet p false e b d (inr (t, zero_b, end)) = inr (t, inl (omega arith))
 halves_meet p true e b d (inl is, within) = inl (omega arith, omega arith)
 halves_meet p true e b d (inr (t, zero_d, end), within) = inr (t, inr (omega arith))
 
--- stretches that meet in blocks of a level meet in blocks of the finest one
+-- stretches meet in blocks of a level where they meet in blocks of the finest one
+in_finest : (r l : ℕ) → l ≤ 10 → r * 2 ^ l * 2 ^ (10 - l) ≡ r * 2 ^ 10
+in_finest r l h =
+    let sum : l + (10 - l) ≡ 10 = omega arith in
+    mul_assoc r (2 ^ l) (2 ^ (10 - l)) ∙ ap (λ m. r * m) (sym (pow-add 2 l (10 - l)) ∙ ap (λ d. 2 ^ d) sum)
+
 pub ends_meet : (p : Bool) (r l u w : ℕ) → l ≤ 10 → Meet p (r * 2 ^ l) u (suc u) w (suc w) → Meet p (r * 2 ^ 10) (low_end l u) (high_end l u) (low_end l w) (high_end l w)
 unfolding low_end high_end
-ends_meet p r l u w h meet =
-    let sum : l + (10 - l) ≡ 10 = omega arith in
-    let whole : r * 2 ^ l * 2 ^ (10 - l) ≡ r * 2 ^ 10 = mul_assoc r (2 ^ l) (2 ^ (10 - l)) ∙ ap (λ m. r * m) (sym (pow-add 2 l (10 - l)) ∙ ap (λ d. 2 ^ d) sum) in
-    subst (λ e. Meet p e (u * 2 ^ (10 - l)) (suc u * 2 ^ (10 - l)) (w * 2 ^ (10 - l)) (suc w * 2 ^ (10 - l))) whole (meet_times p (r * 2 ^ l) _ _ _ _ (2 ^ (10 - l)) meet)
+ends_meet p r l u w h meet = subst (λ e. Meet p e (u * 2 ^ (10 - l)) (suc u * 2 ^ (10 - l)) (w * 2 ^ (10 - l)) (suc w * 2 ^ (10 - l))) (in_finest r l h) (meet_times p (r * 2 ^ l) _ _ _ _ (2 ^ (10 - l)) meet)
+
+pub ends_apart : (p : Bool) (r l u w : ℕ) → l ≤ 10 → Meet p (r * 2 ^ 10) (low_end l u) (high_end l u) (low_end l w) (high_end l w) → Meet p (r * 2 ^ l) u (suc u) w (suc w)
+unfolding low_end high_end
+ends_apart p r l u w h meet = meet_over p (r * 2 ^ l) u (suc u) w (suc w) (2 ^ (10 - l)) (pow_pos (10 - l)) (subst (λ e. Meet p e (u * 2 ^ (10 - l)) (suc u * 2 ^ (10 - l)) (w * 2 ^ (10 - l)) (suc w * 2 ^ (10 - l))) (sym (in_finest r l h)) meet)
 
 -- ---- cells beside a block's faces, on an axis of e blocks of n cells
 

@@ -8,3 +8,6 @@ pub mod Places
 pub mod Beside
 pub mod SideFaces
 pub mod Directions
+pub mod Surrounded
+pub mod FromKinds
+pub mod Interior

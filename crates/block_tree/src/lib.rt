@@ -7,8 +7,11 @@
 mod beside;
 mod blocks;
 mod directions;
+mod forest;
+mod interior;
 mod marks;
 mod places;
+mod rule;
 mod search;
 mod tree;
 
@@ -16,8 +19,9 @@ pub use beside::{block_beside, finer_beside};
 pub use directions::{
     Direction, Round, block_toward, direction_at, direction_bit, finer_parts, node_round,
 };
+pub use interior::{array_on, axes_of, places_along};
 pub use marks::Marks;
-pub use tree::{GrowStop, NodeKind, Tree};
+pub use tree::{GrowStop, KindsStop, NodeKind, Tree};
 
 #[cfg(test)]
 mod tests;

@@ -13,7 +13,7 @@ use mesh_model::Shape;
 use std::alloc::Global;
 
 /// Puts a block at the end of a list.
-fn push(nodes: &mut Vec<BlockAt>, b: BlockAt) -> Result<(), OutOfMemory>
+pub fn push(nodes: &mut Vec<BlockAt>, b: BlockAt) -> Result<(), OutOfMemory>
     ensures { OnOk result (nodes.new.items ≡ nodes.old.items ++ b ∷ []) }
 {
     match nodes.push(b) {

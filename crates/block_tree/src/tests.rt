@@ -2,6 +2,7 @@
 
 ghost use Rattle.block_tree.specs.GridOf.{grid_of};
 ghost use Rattle.block_tree.specs.Numbered.{IsNode, block_at, flag_in};
+ghost use Rattle.mesh_model.specs.Geometry.Limits.{IsShape};
 ghost use Rattle.mesh_model.specs.Tree.Order.{nodes};
 ghost use Rattle.mesh_model.specs.Tree.Kinds.{is_leaf_block};
 ghost use Rattle.std.specs.Prelude.{◌≡◌, ℕ, IfOk, length, replicate, true};
@@ -170,4 +171,180 @@ fn marks_stand(rt: HostRuntime) {
     assert!(rt; !marks.derefine(1));
     marks.reset(&tree);
     assert!(rt; !marks.refine(1));
+}
+
+/// How many nodes and leaves the tree with such flags has, which stand in runs of so many up or down.
+fn nodes_of_runs(alloc: Global, shape: Shape, runs: &[(bool, u32)]) -> Result<(u32, u32), KindsStop>
+    requires { IsShape shape }
+{
+    let mut above = Vec::new(alloc);
+    for (up, count) in runs {
+        for _ in 0..*count {
+            if above.push(*up).is_err() {
+                return Err(KindsStop::OutOfMemory);
+            }
+        }
+    }
+    let tree = Tree::from_kinds(alloc, shape, &above)?;
+    Ok((tree.len(), tree.leaf_count()))
+}
+
+/// Runs of flags, and the numbers of nodes and of leaves of their tree.
+type FlagRow = ([(bool, u32); 3], Result<(u32, u32), KindsStop>);
+
+/// One root that may not be split.
+const FLAT_ROWS: [FlagRow; 5] = [
+    ([(false, 1), (false, 0), (false, 0)], Ok((1, 1))),
+    (
+        [(false, 0), (false, 0), (false, 0)],
+        Err(KindsStop::NotTree),
+    ),
+    (
+        [(false, 2), (false, 0), (false, 0)],
+        Err(KindsStop::NotTree),
+    ),
+    ([(true, 1), (false, 8), (false, 0)], Err(KindsStop::NotTree)),
+    (
+        [(false, 9000), (false, 0), (false, 0)],
+        Err(KindsStop::NotTree),
+    ),
+];
+
+/// One root that may be split: flags that fit, wanting, left over and at the finest level.
+const SPLIT_ROWS: [FlagRow; 5] = [
+    ([(true, 1), (false, 8), (true, 0)], Ok((9, 8))),
+    ([(true, 1), (false, 7), (true, 0)], Err(KindsStop::NotTree)),
+    ([(true, 1), (false, 9), (true, 0)], Err(KindsStop::NotTree)),
+    ([(true, 1), (false, 8), (true, 1)], Err(KindsStop::NotTree)),
+    ([(true, 2), (false, 15), (true, 0)], Err(KindsStop::NotTree)),
+];
+
+#[test]
+fn flags_of_one_root_are_read(rt: HostRuntime) {
+    let alloc = rt.alloc();
+    let flat = Shape {
+        rx: 1,
+        ry: 1,
+        rz: 1,
+        n: 4,
+        g: 1,
+        min: 0,
+        max: 0,
+        sides: [SideKind::Outflow; 6],
+    };
+    for (runs, nodes) in FLAT_ROWS {
+        assert_eq!(rt; nodes_of_runs(alloc, flat, &runs), nodes);
+    }
+    let one = Shape { max: 1, ..flat };
+    for (runs, nodes) in SPLIT_ROWS {
+        assert_eq!(rt; nodes_of_runs(alloc, one, &runs), nodes);
+    }
+    let two = Shape { max: 2, ..flat };
+    assert_eq!(rt;
+        nodes_of_runs(alloc, two, &[(true, 2), (false, 15)]),
+        Ok((17, 15))
+    );
+}
+
+#[test]
+fn flags_keep_the_level_rule(rt: HostRuntime) {
+    let alloc = rt.alloc();
+    let row = Shape {
+        rx: 2,
+        ry: 1,
+        rz: 1,
+        n: 4,
+        g: 1,
+        min: 0,
+        max: 2,
+        sides: [SideKind::Outflow; 6],
+    };
+    let ring = Shape {
+        sides: [SideKind::Periodic; 6],
+        ..row
+    };
+    let cube = Shape {
+        ry: 2,
+        rz: 2,
+        ..row
+    };
+    let none = Err(KindsStop::NotTree);
+    // Of two roots in a row the first is refined, and its child away from the second one, or beside it.
+    let away = [(true, 2), (false, 16)];
+    let beside = [(true, 1), (false, 1), (true, 1), (false, 15)];
+    assert_eq!(rt; nodes_of_runs(alloc, row, &away), Ok((18, 16)));
+    assert_eq!(rt; nodes_of_runs(alloc, row, &beside), none);
+    assert_eq!(rt; nodes_of_runs(alloc, ring, &away), none);
+    // Of eight roots all but the last are refined, and the child of the first that touches that in a corner.
+    let fine = (true, 1);
+    let leaves = (false, 8);
+    let all = [
+        fine,
+        (false, 7),
+        fine,
+        leaves,
+        fine,
+        leaves,
+        fine,
+        leaves,
+        fine,
+        leaves,
+        fine,
+        leaves,
+        fine,
+        leaves,
+        fine,
+        leaves,
+        fine,
+        leaves,
+    ];
+    assert_eq!(rt; nodes_of_runs(alloc, cube, &all), Ok((80, 71)));
+    let mut corner = all;
+    corner[16] = (false, 1);
+    corner[17] = (false, 0);
+    assert_eq!(rt; nodes_of_runs(alloc, cube, &corner), none);
+}
+
+/// Flags of 512 roots, of which the first `count` are split.
+fn first_split(alloc: Global, count: u32) -> Result<Vec<bool>, OutOfMemory> {
+    let mut above = Vec::new(alloc);
+    for root in 0..512 {
+        let split = root < count;
+        let children = if split { 8 } else { 0 };
+        if above.push(split).is_err() {
+            return Err(OutOfMemory);
+        }
+        for _ in 0..children {
+            if above.push(false).is_err() {
+                return Err(OutOfMemory);
+            }
+        }
+    }
+    Ok(above)
+}
+
+#[test]
+fn flags_of_too_many_nodes_are_no_tree(rt: HostRuntime) {
+    let alloc = rt.alloc();
+    let shape = Shape {
+        rx: 8,
+        ry: 8,
+        rz: 8,
+        n: 8,
+        g: 4,
+        min: 0,
+        max: 1,
+        sides: [SideKind::Periodic; 6],
+    };
+    let more = Shape { g: 2, ..shape };
+    let few = first_split(alloc, 448).expect(&rt, "memory");
+    let tree = Tree::from_kinds(alloc, shape, &few).expect(&rt, "tree");
+    assert_eq!(rt; (tree.len(), tree.leaf_count()), (4096, 3648));
+    let many = first_split(alloc, 449).expect(&rt, "memory");
+    assert_eq!(rt;
+        Tree::from_kinds(alloc, shape, &many).err(),
+        Some(KindsStop::NotTree)
+    );
+    let tree = Tree::from_kinds(alloc, more, &many).expect(&rt, "tree");
+    assert_eq!(rt; (tree.len(), tree.leaf_count()), (4104, 3655));
 }

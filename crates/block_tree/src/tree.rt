@@ -3,7 +3,9 @@
 ghost use Rattle.block_tree.specs.Listed.{IsTree};
 
 use crate::blocks::{block_over, child_block, is_in_domain, most_nodes, parent_block};
+use crate::forest::nodes_of;
 use crate::places::{push_place, root_blocks};
+use crate::rule::keeps_level_rule;
 use crate::search::place_of;
 use amr_num::{BlockAt, CellAt, OutOfMemory};
 pub use mesh_model::NodeKind;
@@ -19,6 +21,15 @@ pub enum GrowStop {
     OutOfMemory,
 }
 
+/// Why there is no tree with flags.
+#[derive(Clone, Copy, Debug, PartialEq, Eq)]
+pub enum KindsStop {
+    /// No tree of the shape has these flags.
+    NotTree,
+    /// Memory was refused.
+    OutOfMemory,
+}
+
 /// The nodes of a mesh's tree of blocks, in Morton order. Its leaves tile the domain and keep the level rule, and
 /// its nodes are at most 8,192, or 4,096 where blocks have 4 guard cells on each side.
 #[derive(Drop)]
@@ -30,6 +41,7 @@ pub struct Tree {
 
 impl Tree {
     ghost use Rattle.amr_num.specs.declared.BlockAt.{BlockAt};
+    ghost use Rattle.block_tree.specs.FromKinds.{IsKindsStop};
     ghost use Rattle.block_tree.specs.GridOf.{grid_of};
     ghost use Rattle.block_tree.specs.Growing.{IsGrowStop, MayRegrow, grid_after};
     ghost use Rattle.block_tree.specs.Places.{is_taken_back};
@@ -39,6 +51,7 @@ impl Tree {
     ghost use Rattle.mesh_model.specs.Geometry.Coordinates.{Inside};
     ghost use Rattle.mesh_model.specs.Geometry.Limits as limits;
     ghost use Rattle.mesh_model.specs.Geometry.Limits.{IsShape};
+    ghost use Rattle.mesh_model.specs.Tree.Forest.{HasFlags};
     ghost use Rattle.mesh_model.specs.Tree.Order.{IsIn, nodes};
     ghost use Rattle.mesh_model.specs.Tree.Kinds.{block_of, is_leaf_block, is_split};
     ghost use Rattle.mesh_model.specs.Tree.Start.{start_grid};
@@ -53,6 +66,28 @@ impl Tree {
         ensures { IfOk result (λ tree. grid_of tree ≡ start_grid shape) }
     {
         let nodes = root_blocks(alloc, &shape)?;
+        Ok(Tree { shape, nodes })
+    }
+
+    /// The tree whose nodes in Morton order have these flags: up for a parent, down for a leaf. `NotTree` comes exactly
+    /// where no tree of the shape has them: flags are wanting or left over, a parent stands at the finest level, leaves
+    /// that touch differ by more than one level, or there are more nodes than the limit.
+    pub fn from_kinds(alloc: Global, shape: Shape, above: &[bool]) -> Result<Tree, KindsStop>
+        requires { IsShape shape }
+        ensures tree { IfOk result (λ tree. HasFlags shape above.now (grid_of tree)) }
+        ensures stop { IfErr result (IsKindsStop shape above.now) }
+    {
+        if above.len() > most_nodes(&shape) as usize {
+            return Err(KindsStop::NotTree);
+        }
+        let nodes = match nodes_of(alloc, &shape, above) {
+            Ok(Some(nodes)) => nodes,
+            Ok(None) => return Err(KindsStop::NotTree),
+            Err(OutOfMemory) => return Err(KindsStop::OutOfMemory),
+        };
+        if !keeps_level_rule(&shape, &nodes, above) {
+            return Err(KindsStop::NotTree);
+        }
         Ok(Tree { shape, nodes })
     }
 

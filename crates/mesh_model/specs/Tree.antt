@@ -6,5 +6,6 @@ pub mod Kinds
 pub mod ValidGrid
 pub mod Regrown
 pub mod Start
+pub mod Forest
 pub mod MarkedGrid
 pub mod Growth

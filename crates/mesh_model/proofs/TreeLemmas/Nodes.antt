@@ -1,14 +1,15 @@
 -- The nodes of a tree are its leaves and their ancestors, by rising key.
-use Rattle.std.proofs.Common.{◌≡◌, ℕ, zero, suc, ◌+◌, ◌-◌, ◌*◌, ◌/◌, ◌%◌, ◌^◌, ◌<◌, ◌≤◌, ◌==◌, ◌&&◌, true, false, refl, sym, ap, ◌∙◌, arith, inl, inr, subst, [], ◌∷◌, ◌++◌, eqb-true, eq-eqb}
+use Rattle.std.proofs.Common.{◌≡◌, ℕ, zero, suc, ◌+◌, ◌-◌, ◌*◌, ◌/◌, ◌%◌, ◌^◌, ◌<◌, ◌≤◌, ◌==◌, ◌&&◌, true, false, refl, sym, ap, ◌∙◌, arith, inl, inr, subst, List, [], ◌∷◌, ◌++◌, eqb-true, eq-eqb}
 use Rattle.std.proofs.Math.Nat.{mul-div_cancel, mul_assoc}
 use Rattle.std.proofs.Math.Pow.{pow-add}
 use Rattle.std.proofs.lemmas.Nat.{pow_pos}
 use Rattle.std.proofs.lemmas.Bool.{cases_Bool, cases_lt}
 use Rattle.amr_num.specs.declared.BlockAt.{BlockAt}
 use Rattle.mesh_model.specs.Geometry.Blocks.{child_block, parent_block, is_first_child, LiesIn, InDomain}
+use Rattle.mesh_model.specs.Geometry.Limits.{IsShape}
 use Rattle.mesh_model.specs.Tree.Kinds.{Grid}
 use Rattle.mesh_model.specs.Tree.Order.{IsIn, Sorted, key, morton, begun_at, nodes}
-use Rattle.mesh_model.specs.Tree.ValidGrid.{Valid}
+use Rattle.mesh_model.specs.Tree.ValidGrid.{Tiles, Valid}
 use Rattle.mesh_model.proofs.TreeLemmas.Tests.{in_left, in_right, in_either, in_flat, from_flat, all_three, and_both}
 use Rattle.mesh_model.proofs.TreeLemmas.Tiling.{nested, lies_trans, lies_refl, child_in, finest, finest_in, domain_finest, domain_up, double}
 use Rattle.mesh_model.proofs.TreeLemmas.Regrown.{is_parent}
@@ -67,38 +68,38 @@ has_node (suc d) (suc l) c b e level x y z =
     let up = has_node d l (parent_block c) b (omega arith) (omega arith) (omega arith) (omega arith) (omega arith) in
     subst (λ u. IsIn b u) (sym (begun_first l c first)) (in_left b (begun_at l (parent_block c)) (c ∷ []) up)
 
-module _ (g : Grid) (valid : Valid g) where
-  pub node_in : (b : BlockAt) → IsIn b (nodes g.leaves) → (leaf : BlockAt) × IsIn leaf g.leaves × LiesIn leaf b
-  unfolding nodes
-  node_in b i =
-      let from = from_flat (λ c. begun_at c.level c) b g.leaves i in
-      (from.0, from.1, begun_in from.0.level from.0 b refl from.2)
+pub leaf_under : (leaves : List BlockAt) (b : BlockAt) → IsIn b (nodes leaves) → (leaf : BlockAt) × IsIn leaf leaves × LiesIn leaf b
+unfolding nodes
+leaf_under leaves b i =
+    let from = from_flat (λ c. begun_at c.level c) b leaves i in
+    (from.0, from.1, begun_in from.0.level from.0 b refl from.2)
 
+module _ (g : Grid) (tiles : Tiles g) where
   first_place : (top lb lc x : ℕ) → lb ≤ lc → lc ≤ top → x * 2 ^ (top - lb) / 2 ^ (top - lc) ≡ x * 2 ^ (lc - lb)
   first_place top lb lc x h k =
       let sum : top - lb ≡ (lc - lb) + (top - lc) = omega arith in
       ap (λ d. x * 2 ^ d / 2 ^ (top - lc)) sum ∙ ap (λ p. x * p / 2 ^ (top - lc)) (pow-add 2 (lc - lb) (top - lc)) ∙ ap (λ p. p / 2 ^ (top - lc)) (sym (mul_assoc x (2 ^ (lc - lb)) (2 ^ (top - lc)))) ∙ mul-div_cancel (x * 2 ^ (lc - lb)) (pow_pos (top - lc))
 
-  pub in_node : (b leaf : BlockAt) → IsIn leaf g.leaves → LiesIn leaf b → IsIn b (nodes g.leaves)
+  pub round_leaf : (b leaf : BlockAt) → IsIn leaf g.leaves → LiesIn leaf b → IsIn b (nodes g.leaves)
   unfolding nodes finest
-  in_node b leaf i h =
+  round_leaf b leaf i h =
       let top = g.shape.max in
-      let domain = valid.tiles.inside leaf i in
+      let domain = tiles.inside leaf i in
       let room = domain.level in
       let under = h.level in
       let around : InDomain g.shape b = domain_up g.shape leaf b h domain in
       let p = finest top b in
       let pb : LiesIn p b = finest_in top b (omega arith) in
-      let over = valid.tiles.covered p (domain_finest g.shape b around) refl in
+      let over = tiles.covered p (domain_finest g.shape b around) refl in
       let c = over.0 in
-      let inside = (valid.tiles.inside c over.1).level in
+      let inside = (tiles.inside c over.1).level in
       elim (cases_lt c.level b.level) [
         | inl coarse ↦
             let bc : LiesIn b c = nested p b c pb over.2 (omega arith) in
             let lc = lies_trans leaf b c h bc in
             let q = finest top leaf in
             let ql = finest_in top leaf room in
-            let same = ap (λ (u : BlockAt). u.level) (valid.tiles.once q leaf c refl i over.1 ql (lies_trans q leaf c ql lc)) in
+            let same = ap (λ (u : BlockAt). u.level) (tiles.once q leaf c refl i over.1 ql (lies_trans q leaf c ql lc)) in
             absurd (omega arith)
         | inr fine ↦
             let deep : c.level ≡ b.level + (c.level - b.level) = omega arith in
@@ -107,6 +108,13 @@ module _ (g : Grid) (valid : Valid g) where
             let z = sym over.2.z ∙ first_place top b.level c.level b.z fine inside in
             in_flat (λ u. begun_at u.level u) b c g.leaves over.1 (has_node (c.level - b.level) c.level c b refl deep x y z)
       ]
+
+module _ (g : Grid) (valid : Valid g) where
+  pub node_in : (b : BlockAt) → IsIn b (nodes g.leaves) → (leaf : BlockAt) × IsIn leaf g.leaves × LiesIn leaf b
+  node_in b i = leaf_under g.leaves b i
+
+  pub in_node : (b leaf : BlockAt) → IsIn leaf g.leaves → LiesIn leaf b → IsIn b (nodes g.leaves)
+  in_node b leaf i h = round_leaf g valid.tiles b leaf i h
 
 -- ---- nodes by rising key
 
@@ -169,20 +177,23 @@ begun_sorted (suc l) c e h = elim (cases_Bool (is_first_child c)) [
   | inr f ↦ subst (λ u. Sorted u) (sym (begun_other l c f)) (sorted_one c)
 ]
 
-pub nodes_sorted : (g : Grid) → Valid g → Sorted g.leaves → Sorted (nodes g.leaves)
+pub tiled_sorted : (g : Grid) → IsShape g.shape → Tiles g → Sorted g.leaves → Sorted (nodes g.leaves)
 unfolding nodes key
-nodes_sorted g valid order =
-    let top = valid.shape.max in
+tiled_sorted g shape tiles order =
+    let top = shape.max in
     sorted_flat (λ b. begun_at b.level b) g.leaves order
-    (λ b i. let room = (valid.tiles.inside b i).level in begun_sorted b.level b refl (omega arith))
+    (λ b i. let room = (tiles.inside b i).level in begun_sorted b.level b refl (omega arith))
     (λ b c n o i j h in_b in_c.
-    let room_b = (valid.tiles.inside b i).level in
-    let room_c = (valid.tiles.inside c j).level in
+    let room_b = (tiles.inside b i).level in
+    let room_c = (tiles.inside c j).level in
     let from_b = begun_starts b.level b n refl (omega arith) in_b in
     let from_c = begun_starts c.level c o refl (omega arith) in_c in
     let place_b = from_b.place in
     let place_c = from_c.place in
     let under = from_b.level in
-    let past = past_end g valid b c i j h in
+    let past = past_end g shape tiles b c i j h in
     let wide = span_pos b.level in
     omega arith)
+
+pub nodes_sorted : (g : Grid) → Valid g → Sorted g.leaves → Sorted (nodes g.leaves)
+nodes_sorted g valid order = tiled_sorted g valid.shape valid.tiles order

@@ -11,9 +11,10 @@ use Rattle.mesh_model.specs.Tree.MarkedGrid.{MarkedGrid, ValidMarkedGrid}
 use Rattle.mesh_model.specs.Geometry.Blocks.{child_block, parent_block, children, LiesIn}
 use Rattle.mesh_model.specs.Tree.Regrown.{leaves_for, regrown, new_grid}
 use Rattle.mesh_model.specs.Tree.Closure.{is_refined, is_merged}
+use Rattle.mesh_model.specs.Geometry.Limits.{IsShape}
 use Rattle.mesh_model.specs.Geometry.Touch.{low_end}
 use Rattle.mesh_model.specs.Tree.Order.{IsIn, interleave, morton, key, Sorted}
-use Rattle.mesh_model.specs.Tree.ValidGrid.{Valid}
+use Rattle.mesh_model.specs.Tree.ValidGrid.{Tiles, Valid}
 use Rattle.mesh_model.proofs.TreeLemmas.Tests.{in_either, in_flat, from_flat, and_left, and_right}
 use Rattle.mesh_model.proofs.TreeLemmas.Tiling.{finest, finest_in}
 use Rattle.mesh_model.proofs.TreeLemmas.Morton.{step, shifted, digits, same_numbers, power8}
@@ -31,7 +32,7 @@ pub morton_of : (b : BlockAt) → b.level ≤ 10 → morton b ≡ span b.level *
 unfolding morton low_end span
 morton_of b h = shifted (10 - b.level) (b.level + 3) 13 b.x b.y b.z (omega arith)
 
-spans : (l : ℕ) → l < 10 → span l ≡ 8 * span (suc l)
+pub spans : (l : ℕ) → l < 10 → span l ≡ 8 * span (suc l)
 unfolding span
 spans l h = let one : 10 - l ≡ suc (10 - suc l) = omega arith in ap (λ d. 8 ^ d) one ∙ power8 (10 - suc l)
 
@@ -56,7 +57,7 @@ morton_child b q h l =
     ∙ ap (λ u. u * interleave (b.level + 3) b.x b.y b.z + q * span (suc b.level)) (sym (spans b.level h))
     ∙ ap (λ u. u + q * span (suc b.level)) (sym (morton_of b (omega arith)))
 
-one_more : (n s : ℕ) → suc n * s ≡ n * s + s
+pub one_more : (n s : ℕ) → suc n * s ≡ n * s + s
 one_more n s = grind arith
 
 pub span_pos : (l : ℕ) → 0 < span l
@@ -69,7 +70,7 @@ span_pos l = pos8 (10 - l)
 
 -- ---- leaves one after the other
 
-module _ (g : Grid) (valid : Valid g) where
+module _ (g : Grid) (shape : IsShape g.shape) (tiles : Tiles g) where
   few : (r l x : ℕ) → r ≤ 8 → x < r * 2 ^ l → x < 2 ^ (l + 3)
   few r l x h lt =
       let room = mul-le-mul_right (2 ^ l) h in
@@ -104,17 +105,17 @@ module _ (g : Grid) (valid : Valid g) where
   starts_within : (b c : BlockAt) → IsIn b g.leaves → IsIn c g.leaves → morton c / span b.level ≡ interleave (b.level + 3) b.x b.y b.z → b ≡ c
   unfolding finest morton span
   starts_within b c i j e =
-      let db = valid.tiles.inside b i in
-      let dc = valid.tiles.inside c j in
+      let db = tiles.inside b i in
+      let dc = tiles.inside c j in
       let lb = db.level in
       let lc = dc.level in
-      let top = valid.shape.max in
+      let top = shape.max in
       let at = sym (digits (10 - b.level) (b.level + 3) 13 (low_end c.level c.x) (low_end c.level c.y) (low_end c.level c.z) (omega arith)) ∙ e in
       let same = same_numbers (b.level + 3) _ _ _ b.x b.y b.z
-      (start_few g.shape.rx c.level c.x b.level valid.shape.few_x (omega arith) (omega arith) dc.x)
-      (start_few g.shape.ry c.level c.y b.level valid.shape.few_y (omega arith) (omega arith) dc.y)
-      (start_few g.shape.rz c.level c.z b.level valid.shape.few_z (omega arith) (omega arith) dc.z)
-      (few g.shape.rx b.level b.x valid.shape.few_x db.x) (few g.shape.ry b.level b.y valid.shape.few_y db.y) (few g.shape.rz b.level b.z valid.shape.few_z db.z) at in
+      (start_few g.shape.rx c.level c.x b.level shape.few_x (omega arith) (omega arith) dc.x)
+      (start_few g.shape.ry c.level c.y b.level shape.few_y (omega arith) (omega arith) dc.y)
+      (start_few g.shape.rz c.level c.z b.level shape.few_z (omega arith) (omega arith) dc.z)
+      (few g.shape.rx b.level b.x shape.few_x db.x) (few g.shape.ry b.level b.y shape.few_y db.y) (few g.shape.rz b.level b.z shape.few_z db.z) at in
       let p = finest g.shape.max c in
       let in_b : LiesIn p b = record {
         level = lb;
@@ -122,15 +123,15 @@ module _ (g : Grid) (valid : Valid g) where
         y = sym (start_at g.shape.max c.level c.y b.level lc lb top) ∙ same.1;
         z = sym (start_at g.shape.max c.level c.z b.level lc lb top) ∙ same.2;
       } in
-      valid.tiles.once p b c refl i j in_b (finest_in g.shape.max c lc)
+      tiles.once p b c refl i j in_b (finest_in g.shape.max c lc)
 
   -- a leaf after another begins after its end
   pub past_end : (b c : BlockAt) → IsIn b g.leaves → IsIn c g.leaves → key b < key c → morton b + span b.level ≤ morton c
   unfolding key
   past_end b c i j h =
-      let lb = (valid.tiles.inside b i).level in
-      let lc = (valid.tiles.inside c j).level in
-      let top = valid.shape.max in
+      let lb = (tiles.inside b i).level in
+      let lc = (tiles.inside c j).level in
+      let top = shape.max in
       elim (cases_lt (morton c) (morton b + span b.level)) [
         | inr ok ↦ ok
         | inl early ↦
@@ -164,11 +165,11 @@ sorted_flat f (b ∷ bs) s each across =
 
 -- ---- what stands in the place of a leaf
 
-abbrev Rising : ℕ → List ℕ → Type 0
+abbrev pub Rising : ℕ → List ℕ → Type 0
 Rising low [] = Unit
 Rising low (n ∷ ns) = (low ≤ n) × ((n < 8) × Rising (suc n) ns)
 
-from_octants : (b c : BlockAt) (ns : List ℕ) (low : ℕ) → Rising low ns → IsIn c (map (child_block b) ns) → (q : ℕ) × (low ≤ q) × (q < 8) × (child_block b q ≡ c)
+pub from_octants : (b c : BlockAt) (ns : List ℕ) (low : ℕ) → Rising low ns → IsIn c (map (child_block b) ns) → (q : ℕ) × (low ≤ q) × (q < 8) × (child_block b q ≡ c)
 from_octants b c [] low r i = absurd i
 from_octants b c (n ∷ ns) low r (inl e) = (n, r.0, r.1.0, e)
 from_octants b c (n ∷ ns) low r (inr i) =
@@ -200,8 +201,11 @@ sorted_octants b (n ∷ ns) low h r = (
   sorted_octants b ns (suc n) h r.1.1,
 )
 
+pub octants_rise : Rising 0 (0 ∷ 1 ∷ 2 ∷ 3 ∷ 4 ∷ 5 ∷ 6 ∷ 7 ∷ [])
+octants_rise = (omega arith, (omega arith, (omega arith, (omega arith, (omega arith, (omega arith, (omega arith, (omega arith, (omega arith, (omega arith, (omega arith, (omega arith, (omega arith, (omega arith, (omega arith, (omega arith, tt))))))))))))))))
+
 sorted_children : (b : BlockAt) → b.level < 10 → Sorted (children b)
-sorted_children b h = sorted_octants b (0 ∷ 1 ∷ 2 ∷ 3 ∷ 4 ∷ 5 ∷ 6 ∷ 7 ∷ []) 0 h (omega arith, (omega arith, (omega arith, (omega arith, (omega arith, (omega arith, (omega arith, (omega arith, (omega arith, (omega arith, (omega arith, (omega arith, (omega arith, (omega arith, (omega arith, (omega arith, tt))))))))))))))))
+sorted_children b h = sorted_octants b (0 ∷ 1 ∷ 2 ∷ 3 ∷ 4 ∷ 5 ∷ 6 ∷ 7 ∷ []) 0 h octants_rise
 
 sorted_if : (z : Bool) (b : BlockAt) → Sorted (if z then b ∷ [] else [])
 sorted_if true b = (λ c i. absurd i, tt)
@@ -256,7 +260,7 @@ module _ (g : Grid) (valid : Valid g) (refine merge : BlockAt → Bool) (fits : 
   unfolding key
   across b c n o i j h in_b in_c =
       let top = valid.shape.max in
-      let past = past_end g valid b c i j h in
+      let past = past_end g valid.shape valid.tiles b c i j h in
       let one = place_begins n b i in_b in
       let two = place_begins o c j in_c in
       let end = one.1 in
