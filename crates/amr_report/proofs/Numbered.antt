@@ -10,42 +10,13 @@ use Rattle.block_tree.specs.declared.tree.Tree.{Tree}
 use Rattle.block_tree.specs.GridOf.{grid_of}
 use Rattle.block_tree.specs.Numbered.{block_at}
 use Rattle.block_tree.proofs.Facts.{known}
-use Rattle.block_tree.proofs.Leaves.{leaves_are}
+use Rattle.block_tree.proofs.ByNumber.{flat_next, leaves_by_number}
 use Rattle.mesh_model.specs.Tree.Order.{nodes}
 use Rattle.mesh_model.specs.Tree.Kinds.{Grid, is_leaf_block}
 use Rattle.mesh_model.specs.Tree.ValidGrid.{Valid}
 use Rattle.mesh_model.specs.Run.TreeText.{node_text, nodes_text}
 use Rattle.amr_report.specs.Nodes.{node_line, of_leaf}
-use Rattle.amr_report.proofs.Printed.{Broke, Printed, flat_next, place_broke}
-
--- what is made of the first n items by their places
-flat_taken : {A : Type 0} (h : A → List ℕ) (d : A) (xs : List A) (n : ℕ) → n ≤ length xs → flat_map (λ p. h (get_or xs p d)) (range_with_len 0 n) ≡ flat_map h (take n xs)
-flat_taken h d xs zero few = refl
-flat_taken h d xs (suc n) few =
-    let next : suc n ≡ n + 1 = omega arith in
-    ap (λ m. flat_map (λ p. h (get_or xs p d)) (range_with_len 0 m)) next
-    ∙ flat_next (λ p. h (get_or xs p d)) n
-    ∙ ap₂ (λ (a b : List ℕ). a ++ b) (flat_taken h d xs n (omega arith)) (sym (append-nil (h (get_or xs n d))))
-    ∙ sym (ap (flat_map h) (take-suc xs n d (omega arith)) ∙ flat_map-append h (take n xs) (get_or xs n d ∷ []))
-
-pub flat_by_place : {A : Type 0} (h : A → List ℕ) (d : A) (xs : List A) → flat_map (λ p. h (get_or xs p d)) (range_with_len 0 (length xs)) ≡ flat_map h xs
-flat_by_place h d xs = flat_taken h d xs (length xs) (omega arith) ∙ ap (flat_map h) (take_all (length xs) xs (omega arith))
-
--- what is made of the items that pass
-flat_passed : {A : Type 0} (p : A → Bool) (f : A → List ℕ) (xs : List A) → flat_map (λ x. if p x then f x else []) xs ≡ flat_map f (filter p xs)
-flat_passed p f [] = refl
-flat_passed p f (x ∷ xs) = elim (cases_Bool (p x)) [
-  | inl t ↦ rw t (ap (λ s. f x ++ s) (flat_passed p f xs))
-  | inr fails ↦ rw fails (flat_passed p f xs)
-]
-
--- what is made of the leaves
-pub leaves_by_number : (g : Grid) → Valid g → (f : BlockAt → List ℕ) → flat_map (of_leaf g f) (range_with_len 0 (length (nodes g.leaves))) ≡ flat_map f g.leaves
-unfolding block_at
-leaves_by_number g valid f =
-    flat_by_place (λ b. if is_leaf_block g b then f b else []) (record { level = 0; x = 0; y = 0; z = 0 }) (nodes g.leaves)
-    ∙ flat_passed (is_leaf_block g) f (nodes g.leaves)
-    ∙ ap (flat_map f) (leaves_are g valid)
+use Rattle.amr_report.proofs.Printed.{Broke, Printed, place_broke}
 
 pub leaves_by_node : (tree : Tree) (f : BlockAt → List ℕ) → flat_map (of_leaf (grid_of tree) f) (range_with_len 0 (length (nodes (grid_of tree).leaves))) ≡ flat_map f (grid_of tree).leaves
 leaves_by_node tree f = let whole = known tree in leaves_by_number (grid_of tree) whole.valid f

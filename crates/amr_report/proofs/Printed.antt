@@ -8,6 +8,7 @@ use Rattle.std.specs.List.{range_with_len}
 use Rattle.outside_io.specs.Moved.{Rose, Takes, TakesPrefix}
 use Rattle.outside_io.specs.declared.Failed.{Failed}
 use Rattle.outside_io.proofs.Moving.{takes_more}
+use Rattle.block_tree.proofs.ByNumber.{flat_next, range_apart}
 use Rattle.amr_report.specs.Printing.{Prints}
 
 -- the sink took the text, and no fault
@@ -64,17 +65,6 @@ pub first_broke : (a c : Option (List ℕ)) (first second : List ℕ) (before af
 first_broke a c first second before after failed = broke_within a a c [] first second (first ++ second) before before after (none_printed a before) failed refl
 
 -- ---- the texts of places one after the other
-
-range_apart : (a m k : ℕ) → range_with_len a (m + k) ≡ range_with_len a m ++ range_with_len (a + m) k
-range_apart a zero k = ap₂ range_with_len (sym (add-zero a)) (zero-add k)
-range_apart a (suc m) k =
-    let e : suc m + k ≡ suc (m + k) = omega arith in
-    let h : a + 1 + m ≡ a + suc m = omega arith in
-    ap (range_with_len a) e ∙ ap (λ r. a ∷ r) (range_apart (a + 1) m k ∙ ap (λ b. range_with_len (a + 1) m ++ range_with_len b k) h)
-
--- one more place
-pub flat_next : {A : Type 0} (f : ℕ → List A) (j : ℕ) → flat_map f (range_with_len 0 (j + 1)) ≡ flat_map f (range_with_len 0 j) ++ f j
-flat_next f j = ap (flat_map f) (range_apart 0 j 1) ∙ flat_map-append f (range_with_len 0 j) (range_with_len (0 + j) 1) ∙ ap₂ (λ k t. flat_map f (range_with_len 0 j) ++ (f k ++ t)) (zero-add j) refl ∙ ap (λ t. flat_map f (range_with_len 0 j) ++ t) (append-nil (f j))
 
 -- what comes after a place
 pub flat_after : {A : Type 0} (f : ℕ → List A) (j n : ℕ) → j < n → (rest : List A) × (flat_map f (range_with_len 0 n) ≡ (flat_map f (range_with_len 0 j) ++ f j) ++ rest)

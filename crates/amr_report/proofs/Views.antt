@@ -22,8 +22,7 @@ use Rattle.amr_report.specs.Arrays.{array_on, at_place, group_text, head_line, i
 use Rattle.amr_report.specs.Nodes.{of_leaf}
 use Rattle.amr_report.specs.Values.{HasGuardValues, HasViews, IsPlace, guard_value, interior_value}
 use Rattle.amr_report.specs.declared.arrays.Shown.{Shown}
-use Rattle.amr_report.proofs.Numbered.{leaves_by_number}
-use Rattle.amr_report.proofs.Printed.{flat_next}
+use Rattle.block_tree.proofs.ByNumber.{flat_next, leaves_by_number}
 
 -- ---- texts by places that agree
 

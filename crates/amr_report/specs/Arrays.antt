@@ -7,32 +7,11 @@ use Rattle.mesh_model.specs.declared.fields.values.Group.TheVariants as group
 use Rattle.mesh_model.specs.declared.fields.values.Var.{Var}
 use Rattle.mesh_model.specs.declared.fields.values.Var.TheVariants.{Cell, Face, Edge, CellWork, FaceWork, EdgeWork}
 use Rattle.mesh_model.specs.Run.Texts.{axis_name, block_words, number_line, text_line}
-use Rattle.mesh_model.specs.Geometry.Places.{longer_across, longer_on, places}
+use Rattle.mesh_model.specs.Geometry.Places.{places}
+pub use Rattle.block_tree.specs.Interior.{axes_of, array_on, places_along}
 use Rattle.block_tree.specs.Numbered.{block_at}
 use Rattle.mesh_model.specs.Tree.Kinds.{Grid, is_leaf_block}
 use Rattle.amr_report.specs.declared.arrays.Shown.{Shown}
-
--- the axes for which a group has an array each; a cell variable has one array
-abbrev pub axes_of : Group → List Axis
-axes_of (group.Cell v) = X ∷ []
-axes_of group.Face = X ∷ Y ∷ Z ∷ []
-axes_of group.Edge = X ∷ Y ∷ Z ∷ []
-
--- the array of a group for an axis
-abbrev pub array_on : Group → Axis → Var
-array_on (group.Cell v) a = Cell v
-array_on group.Face a = Face a
-array_on group.Edge a = Edge a
-
--- how many interior places an array has along an axis, where blocks have n cells: faces one more along their normal, and edges one more
--- across their own axis
-abbrev pub places_along : ℕ → Var → Axis → ℕ
-places_along n (Cell v) b = n
-places_along n (Face a) b = longer_on a b n
-places_along n (Edge a) b = longer_across a b n
-places_along n CellWork b = n
-places_along n (FaceWork a) b = longer_on a b n
-places_along n (EdgeWork a) b = longer_across a b n
 
 -- how an array is named in its head line, before and after the name of its variable
 abbrev pub array_word : Var → List ℕ

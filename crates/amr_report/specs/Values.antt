@@ -3,7 +3,8 @@ use Rattle.std.specs.Prelude.{◌≡◌, ℕ, ◌+◌, ◌*◌, ◌<◌, true, �
 use Rattle.amr_num.specs.declared.Axis.{Axis}
 use Rattle.amr_num.specs.declared.Axis.TheVariants.{X, Y, Z}
 use Rattle.amr_num.specs.declared.BlockAt.{BlockAt}
-use Rattle.block_tree.specs.Numbered.{IsNode, block_at}
+pub use Rattle.block_tree.specs.Interior.{IsPlace, interior_value, HasInterior, HasViews}
+use Rattle.block_tree.specs.Numbered.{block_at}
 use Rattle.mesh_model.specs.declared.geometry.Shape.{Shape}
 use Rattle.mesh_model.specs.declared.fields.values.Group.{Group}
 use Rattle.mesh_model.specs.declared.fields.values.Group.TheVariants.{Cell, Face, Edge}
@@ -15,34 +16,7 @@ use Rattle.mesh_model.specs.Fields.Plain.{Mesh}
 use Rattle.mesh_model.specs.Geometry.Places.{guard_index, in_block}
 use Rattle.mesh_model.specs.Geometry.Canonical.{canonical_edge, canonical_face}
 use Rattle.mesh_model.specs.Fields.Views.{edge_view, face_view}
-use Rattle.amr_report.specs.Arrays.{array_on, places_along}
-
--- (i, j, k) is a place of an array, counted from its first one, in blocks of n cells with so many guard places at each end of each axis
-pub record IsPlace (n guards : ℕ) (var : Var) (i j k : ℕ) : Type 0 where
-  pub x : i < places_along n var X + 2 * guards
-  pub y : j < places_along n var Y + 2 * guards
-  pub z : k < places_along n var Z + 2 * guards
-
--- ---- at interior places
-
--- what a mesh has at the place (i, j, k) of a leaf's array for an axis: the content of a cell, or the view of a face or of an edge
-abbrev pub interior_value : Mesh → Group → Axis → BlockAt → ℕ → ℕ → ℕ → ℤ
-interior_value m (Cell v) a b i j k = m.cells v (in_block m.grid.shape.n b i j k)
-interior_value m Face a b i j k = face_view m.grid m.faces (canonical_face m.grid.shape (face_of a (in_block m.grid.shape.n b i j k)))
-interior_value m Edge a b i j k =
-    edge_view m.grid m.edges (canonical_edge m.grid.shape (edge_of a (in_block m.grid.shape.n b i j k)))
-
--- at each interior place of the group's arrays, on each leaf, there is a number
-pub record HasInterior (is_there : Var → ℕ → ℤ → ℤ → ℤ → Type 0) (g : Grid) (group : Group) : Type 0 where
-  pub each : (node : ℕ) → IsNode g node → is_leaf_block g (block_at g node) ≡ true
-      → (a : Axis) (i j k : ℕ) → IsPlace g.shape.n 0 (array_on group a) i j k
-      → is_there (array_on group a) node (pos i) (pos j) (pos k)
-
--- these numbers are what the mesh has there
-pub record HasViews (number : Var → ℕ → ℤ → ℤ → ℤ → ℤ) (m : Mesh) (group : Group) : Type 0 where
-  pub each : (node : ℕ) → IsNode m.grid node → is_leaf_block m.grid (block_at m.grid node) ≡ true
-      → (a : Axis) (i j k : ℕ) → IsPlace m.grid.shape.n 0 (array_on group a) i j k
-      → number (array_on group a) node (pos i) (pos j) (pos k) ≡ interior_value m group a (block_at m.grid node) i j k
+use Rattle.block_tree.specs.Interior.{array_on, places_along}
 
 -- ---- at all places, guard places included
 

@@ -5,12 +5,12 @@ ghost use Rattle.amr_report.specs.Arrays.{AreThere, IsSmall};
 ghost use Rattle.amr_report.specs.Printing.{Prints, with_words};
 ghost use Rattle.amr_num.specs.declared.Axis.{Axis};
 ghost use Rattle.amr_num.specs.declared.Axis.TheVariants as axis;
-ghost use Rattle.mesh_model.specs.Geometry.Places as places;
 ghost use Rattle.mesh_model.specs.Run.Texts as texts;
 ghost use Rattle.std.specs.Prelude.{◌≡◌, ◌+◌, ◌*◌, ◌<◌, ◌≤◌, length};
 
 use crate::line::Line;
 use amr_num::{Axis, BlockAt};
+use block_tree::{array_on, axes_of, places_along};
 use mesh_model::{BlockValues, Group, Var};
 use outside_io::Failed;
 use outside_io::sink::Sink;
@@ -24,37 +24,6 @@ pub struct Shown {
     pub cells: u32,
     /// How many guard cells it has on each side, where they are printed.
     pub guards: Option<u32>,
-}
-
-/// How many places along an axis there are on faces with a normal, of a block with so many cells along each axis.
-fn longer_on(normal: Axis, axis: Axis, cells: u32) -> u32
-    requires { cells ≤ 8 }
-    ensures { result ≡ places.longer_on normal axis cells }
-{
-    if normal == axis { cells + 1 } else { cells }
-}
-
-/// How many places along an axis there are on edges along another.
-fn longer_across(along: Axis, axis: Axis, cells: u32) -> u32
-    requires { cells ≤ 8 }
-    ensures { result ≡ places.longer_across along axis cells }
-{
-    if along == axis { cells } else { cells + 1 }
-}
-
-/// How many interior places an array has along an axis.
-fn places_along(cells: u32, var: Var, axis: Axis) -> u32
-    requires { cells ≤ 8 }
-    ensures { result ≡ arrays.places_along cells var axis }
-{
-    match var {
-        Var::Cell(_) => cells,
-        Var::Face(normal) => longer_on(normal, axis, cells),
-        Var::Edge(along) => longer_across(along, axis, cells),
-        Var::CellWork => cells,
-        Var::FaceWork(normal) => longer_on(normal, axis, cells),
-        Var::EdgeWork(along) => longer_across(along, axis, cells),
-    }
 }
 
 impl Shown {
@@ -254,28 +223,6 @@ fn print_planes<K: Sink, V: BlockValues>(
         print_plane(sink, values, shown, var, k)?;
     }
     Ok(())
-}
-
-/// The array of a group for an axis.
-fn array_on(group: Group, axis: Axis) -> Var
-    ensures { result ≡ arrays.array_on group axis }
-{
-    match group {
-        Group::Cell(v) => Var::Cell(v),
-        Group::Face => Var::Face(axis),
-        Group::Edge => Var::Edge(axis),
-    }
-}
-
-/// The axes for which a group has an array each; a cell variable has one array.
-fn axes_of(group: Group) -> &'static [Axis]
-    ensures { result.now ≡ arrays.axes_of group }
-{
-    match group {
-        Group::Cell(_) => &[Axis::X],
-        Group::Face => &[Axis::X, Axis::Y, Axis::Z],
-        Group::Edge => &[Axis::X, Axis::Y, Axis::Z],
-    }
 }
 
 /// Prints the array of a group for an axis, with its head line.

@@ -9,10 +9,10 @@ ghost use Rattle.block_store.specs.Regions.{box_of};
 ghost use Rattle.block_store.specs.Above.{counted_at, first_in_block, first_in_edges, first_in_faces, first_in_plane, first_in_row};
 ghost use Rattle.std.specs.Prelude.{◌≡◌, ◌+◌, ◌<◌, ◌≤◌, ◌^◌, ◌==◌, ◌||◌, ◌&&◌, not, ℕ, IsTrue, length};
 
-use crate::boundary::{edge_direction, is_kept, position};
 use crate::places::{Extents, row};
 use crate::regions::{PlaceAt, Region};
 use amr_num::{Axis, fits};
+use mesh_model::fields::boundary::{edge_direction, is_kept, position};
 
 /// A number out of range, and its place among the cells of a block, among its faces normal to an axis or among its edges along one.
 #[derive(Clone, Copy, Debug, PartialEq, Eq)]

@@ -6,7 +6,6 @@
 
 mod above;
 mod axes;
-mod boundary;
 mod cells;
 mod layout;
 mod making;
@@ -17,9 +16,9 @@ mod store;
 
 pub use above::{Above, CountedEdges, CountedFaces, block_above, edges_above, faces_above};
 pub use axes::{Edges, Faces};
-pub use boundary::{direction, edge_direction, is_kept, position};
 pub use cells::Cells;
 pub use layout::Layout;
+pub use mesh_model::fields::boundary::{direction, edge_direction, is_kept, position};
 pub use places::{Extents, cell_row, number_of, place, row};
 pub use pool::Pool;
 pub use regions::{PlaceAt, Region, copy_region};

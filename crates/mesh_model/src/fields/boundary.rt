@@ -39,7 +39,7 @@ pub fn is_kept(kept: u32, direction: u32) -> bool
 }
 
 /// The step to the part of the boundary at a position on an axis of `n` cells.
-fn end_step(n: usize, position: usize) -> u32
+pub fn end_step(n: usize, position: usize) -> u32
     ensures value { result ≡ edge_splits.end_step n position }
     ensures few { result ≤ 2 }
 {
