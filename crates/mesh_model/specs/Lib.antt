@@ -3,3 +3,4 @@ pub mod Tree
 pub mod Fields
 pub mod Language
 pub mod Run
+pub mod Images

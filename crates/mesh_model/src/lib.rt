@@ -1,11 +1,12 @@
 //! The plain mesh: its definitions and their laws, and the calls on coordinates.
 //!
-//! Its rooms, each of which names only those before it: geometry, the tree, fields, the language, and the
-//! run.
+//! Its rooms, each of which names only those before it: geometry, the tree, fields, the language, the run,
+//! and images.
 #![tactic(auto)]
 
 pub mod fields;
 pub mod geometry;
+pub mod images;
 pub mod language;
 pub mod run;
 pub mod tree;
@@ -18,4 +19,5 @@ pub use geometry::coordinates::{
 pub use geometry::{
     Shape, around_edge, canonical_face, inside_cell, inside_edge, inside_face, side_cells, touches,
 };
+pub use images::Part;
 pub use tree::NodeKind;

@@ -30,7 +30,7 @@ use Rattle.mesh_model.proofs.TreeLemmas.Tiling.{leaf_says}
 
 -- ---- members of lists
 
-abbrev Member : {A : Type 0} → A → List A → Type 0
+abbrev pub Member : {A : Type 0} → A → List A → Type 0
 Member a [] = ⊥
 Member a (b ∷ bs) = (b ≡ a) ⊎ Member a bs
 
@@ -112,7 +112,7 @@ zero_within most z e = subst (λ u. Within most u) (sym e) (omega arith)
 
 -- ---- each leaf cell is walked
 
-cell_walked : (g : Grid) (c : CellAt) → 0 < g.shape.n → is_leaf g c ≡ true → Member c (cells_walked g)
+pub cell_walked : (g : Grid) (c : CellAt) → 0 < g.shape.n → is_leaf g c ≡ true → Member c (cells_walked g)
 cell_walked g c some t =
     let n = g.shape.n in
     let b = block_of n c in
@@ -252,7 +252,7 @@ pub holds_some : (p : CellAt → Bool) (o : Option CellAt) → holds p o ≡ tru
 holds_some p None h = cc
 holds_some p (Some c) h = (c, refl, h)
 
-face_walked : (g : Grid) (f : FaceAt) → IsShape g.shape → (is_canonical g.shape f && is_leaf_face g f) ≡ true → Member f (faces_walked g)
+pub face_walked : (g : Grid) (f : FaceAt) → IsShape g.shape → (is_canonical g.shape f && is_leaf_face g f) ≡ true → Member f (faces_walked g)
 unfolding is_leaf_face is_canonical_at
 face_walked g f shape h =
     let per = is_periodic g.shape f.axis in
@@ -384,7 +384,7 @@ module _ (g : Grid) (e : EdgeAt) (shape : IsShape g.shape) (h : (is_canonical_ed
       let at = moved_twice_is (next e.axis) (next (next e.axis)) (on_first low) (on_second low') (edge_numbers e) cell.0 cell.1 in
       rim_there g e at.0 at.1 (step_of low) (step_of low') (cells_some shape) (step_small low) (step_small low') (ap (is_leaf g) at.4 ∙ cell.2) (first_end low at.0 at.2) (second_end low' at.1 at.3)
 
-  edge_walked : Member e (edges_walked g)
+  pub edge_walked : Member e (edges_walked g)
   unfolding is_leaf_edge
   edge_walked =
       let leaf = and_left (list_any (holds (is_leaf g)) (round_edge g.shape e)) (not (is_split_edge g e)) (and_right (is_canonical_edge g.shape e) (is_leaf_edge g e) h) in
