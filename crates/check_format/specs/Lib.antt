@@ -1,0 +1,4 @@
+pub mod Own
+pub mod Numbered
+pub mod Written
+pub mod Writing
