@@ -32,6 +32,7 @@ acts_quietly m after command is taken faults e none silent made =
 leaves_quiet : (stopper : StoppedBy) (m : Mesh) (command : Command) (text : List ℕ) (taken : Option (List ℕ)) (faults : ℕ) → needs command ≢ TheSink → MayStop stopper m command → Leaves stopper text (quiet taken faults)
 leaves_quiet (by.Mesh why) m command text taken faults silent may = record { taken = refl; calm = refl }
 leaves_quiet by.Sink m command text taken faults silent may = absurd (silent may.0)
+leaves_quiet by.Disk m command text taken faults silent may = record { taken = refl; calm = refl }
 leaves_quiet by.Memory m command text taken faults silent may = record { taken = refl; calm = refl }
 
 -- a command that prints nothing

@@ -19,3 +19,6 @@ pub mod FacesMade
 pub mod Netted
 pub mod FacePut
 pub mod EdgePut
+pub mod Writing
+pub mod Saved
+pub mod Restored

@@ -102,7 +102,7 @@ module _ (n g : ℕ) (w : WorldState) (fit : IsFit n g w) (m : Mesh) (grid : w.t
   leaf_there node is leaf = record { there = subst (λ h. IsNode h node) (sym grid) is; leaf = subst (λ h. is_leaf_block h (block_at h node) ≡ true) (sym grid) leaf }
 
 module _ (n g : ℕ) (w : WorldState) (fit : IsFit n g w) where
-  abbrev number_there : Var → ℕ → ℤ → ℤ → ℤ → ℤ
+  abbrev pub number_there : Var → ℕ → ℤ → ℤ → ℤ → ℤ
   number_there v node i j k = number_of g (extents_of n g v) (array_in (rank_at w 0).own.values v node) i j k
 
   -- what stands at the interior places of leaves is what the mesh has there
@@ -156,7 +156,7 @@ module _ (n g : ℕ) (w : WorldState) (fit : IsFit n g w) where
 
   -- ---- and it is there
 
-  abbrev is_there : Var → ℕ → ℤ → ℤ → ℤ → Type 0
+  abbrev pub is_there : Var → ℕ → ℤ → ℤ → ℤ → Type 0
   is_there v node i j k = HasArray (rank_at w 0).own.values v node × AreIndices g (extents_of n g v) i j k
 
   declared_there : (group : Group) (a : Axis) → IsGroupOf w.told.counts group → HasVar w.told.counts (array_on group a)

@@ -21,7 +21,7 @@ is_built_command Regrid = true
 is_built_command (Advect var speeds) = true
 is_built_command Curl = true
 is_built_command (Induct speeds) = true
-is_built_command Checkpoint = false
+is_built_command Checkpoint = true
 is_built_command PrintSize = true
 is_built_command PrintMesh = true
 is_built_command PrintTree = true
@@ -40,6 +40,6 @@ is_built s ranks workers = nat_le ranks 1 && nat_le workers 1 && list_all (λ li
 abbrev pub IsBuiltLine : Line → Type 0
 IsBuiltLine line = is_built_command line.command ≡ true
 
--- no definition says yet what the command prints, or what it leaves on the disk
+-- no definition says yet what the command prints
 abbrev pub IsUndefined : Command → Type 0
-IsUndefined command = (command ≡ PrintRanks) ⊎ ((command ≡ PrintTrace) ⊎ (command ≡ Checkpoint))
+IsUndefined command = (command ≡ PrintRanks) ⊎ (command ≡ PrintTrace)

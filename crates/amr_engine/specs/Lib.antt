@@ -8,3 +8,5 @@ pub mod Stopping
 pub mod Built
 pub mod Netting
 pub mod Guards
+pub mod Saving
+pub mod Pieced

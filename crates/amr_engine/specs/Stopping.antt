@@ -5,7 +5,7 @@ use Rattle.mesh_steps.specs.declared.hindrance.FaceHindrance.TheVariants as face
 use Rattle.mesh_steps.specs.declared.hindrance.Hindrance.{Hindrance}
 use Rattle.mesh_steps.specs.declared.hindrance.Hindrance.TheVariants.{TooFast, Content, FlowedOut}
 use Rattle.amr_engine.specs.declared.cause.Cause.{Cause}
-use Rattle.amr_engine.specs.declared.cause.Cause.TheVariants.{Range, Courant, Level, Place, PlaceBlock, Blocks, WriteFault, OutOfMemory}
+use Rattle.amr_engine.specs.declared.cause.Cause.TheVariants.{Range, Courant, Level, Place, PlaceBlock, Blocks, WriteFault, DiskFault, OutOfMemory}
 use Rattle.amr_engine.specs.declared.cause.StoppedBy.{StoppedBy}
 use Rattle.amr_engine.specs.declared.cause.StoppedBy.TheVariants as by
 use Rattle.mesh_model.specs.declared.language.script.Command.{Command}
@@ -13,7 +13,7 @@ use Rattle.mesh_model.specs.declared.fields.values.Group.TheVariants.{Cell, Face
 use Rattle.mesh_model.specs.declared.run.stops.Refusal.TheVariants as refusals
 use Rattle.mesh_model.specs.declared.fields.spot.Spot.TheVariants as spots
 use Rattle.mesh_model.specs.Fields.Plain.{Mesh}
-use Rattle.mesh_model.specs.Run.Runs.{TheMemory, TheSink, mesh_after, needs, text_of}
+use Rattle.mesh_model.specs.Run.Runs.{TheDisk, TheMemory, TheSink, mesh_after, needs, text_of}
 use Rattle.mesh_model.specs.Run.Stops.{refusal}
 use Rattle.rank_world.specs.declared.faces.FaceAbove.{FaceAbove}
 use Rattle.regrid_move.specs.declared.regridding.RegridStop.{RegridStop}
@@ -29,13 +29,15 @@ stopped_by (Place spot) = by.Mesh (refusals.Place spot)
 stopped_by (PlaceBlock at) = by.Mesh (refusals.PlaceBlock at)
 stopped_by (Blocks count) = by.Mesh (refusals.Blocks count)
 stopped_by WriteFault = by.Sink
+stopped_by DiskFault = by.Disk
 stopped_by OutOfMemory = by.Memory
 
--- what may stop a command: the mesh that refuses it, for this reason; the sink, where the command needs it and is not refused; or
--- want of memory, where the command needs some
+-- what may stop a command: the mesh that refuses it, for this reason; the sink, where the command needs it and is not refused; the
+-- disk, where the command needs it; or want of memory, where the command needs some
 abbrev pub MayStop : StoppedBy → Mesh → Command → Type 0
 MayStop (by.Mesh why) m command = refusal m command ≡ Some why
 MayStop by.Sink m command = (needs command ≡ TheSink) × (refusal m command ≡ None)
+MayStop by.Disk m command = needs command ≡ TheDisk
 MayStop by.Memory m command = needs command ≡ TheMemory
 
 -- a command that prints nothing is done, and makes this mesh of that one; or it is stopped, and leaves it
@@ -69,6 +71,7 @@ pub record WrotePart (text : List ℕ) (w : Written) : Type 0 where
 abbrev pub Leaves : StoppedBy → List ℕ → Written → Type 0
 Leaves (by.Mesh why) text w = IsUntouched w
 Leaves by.Sink text w = WrotePart text w
+Leaves by.Disk text w = IsUntouched w
 Leaves by.Memory text w = IsUntouched w
 
 -- why a command stopped, and what it had written by then

@@ -29,6 +29,7 @@ fn is_built_command(command: Command) -> bool
         Command::Curl => true,
         Command::Induct { .. } => true,
         Command::NetFlux => true,
+        Command::Checkpoint => true,
         Command::PrintGuards { .. } => true,
         Command::PrintVar { .. } => true,
         Command::Total { .. } => true,

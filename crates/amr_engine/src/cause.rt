@@ -24,6 +24,8 @@ pub enum Cause {
     Blocks(u32),
     /// The sink failed.
     WriteFault,
+    /// The disk failed.
+    DiskFault,
     /// Memory was refused.
     OutOfMemory,
 }
@@ -35,6 +37,8 @@ pub enum StoppedBy {
     Mesh(Refusal),
     /// The sink, which failed.
     Sink,
+    /// The disk, which failed.
+    Disk,
     /// Want of memory.
     Memory,
 }
@@ -63,6 +67,7 @@ impl Cause {
             Cause::PlaceBlock(at) => StoppedBy::Mesh(Refusal::PlaceBlock(at)),
             Cause::Blocks(count) => StoppedBy::Mesh(Refusal::Blocks(count)),
             Cause::WriteFault => StoppedBy::Sink,
+            Cause::DiskFault => StoppedBy::Disk,
             Cause::OutOfMemory => StoppedBy::Memory,
         }
     }

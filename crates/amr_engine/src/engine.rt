@@ -5,6 +5,7 @@ use crate::filling::fill_leaves;
 use crate::marking::{Where, mark_where};
 use crate::netting::net_fluxes;
 use crate::region::{CellBox, Fill, Region};
+use crate::saving::MeshPieces;
 use crate::totals::total;
 use amr_num::{BlockAt, EdgeAt, FaceAt, OutOfMemory};
 use amr_report::{
@@ -12,11 +13,14 @@ use amr_report::{
 };
 use block_store::Layout;
 use block_tree::Marks;
+use check_disk::save::save;
+use check_format::Image;
 use edge_average::agree;
 use guard_fill::{fill, restrict_all};
 use mesh_model::language::names::Names;
 use mesh_model::language::script::{Command, Declared, Line};
 use mesh_model::{Group, Spot};
+use mesh_restore::world_of;
 use mesh_steps::{advect, induct, set_curl};
 use outside_io::Failed;
 use outside_io::disk::Disk;
@@ -27,9 +31,12 @@ use regrid_move::regrid;
 use staggered::{NoEdge, NoFace, set_edge, set_face, set_uniform};
 use std::alloc::Global;
 
+/// How many bytes of an image are written to the disk at a time.
+const PIECE: usize = 65536;
+
 /// A mesh on which the commands of a script are done: its world, which has the tree and the numbers in blocks of `N`
 /// cells along each axis with `G` guard cells on each side, the marks on its leaves, and what has flowed out of each
-/// cell variable.
+/// cell variable; and room for a piece of its image.
 #[derive(Drop)]
 pub struct Engine<const N: usize, const G: usize> {
     alloc: Global,
@@ -37,6 +44,9 @@ pub struct Engine<const N: usize, const G: usize> {
     world: World<N, G>,
     marks: Marks,
     outs: Vec<i128>,
+    piece: Vec<u8>,
+    ghost room: { length piece.items ≡ 65536 },
+    ghost named: { NamesFit names } by { Prim.hlevel props },
     ghost fit: { IsFit N G world },
     ghost laid_out: { IsLaidOut names world outs.items marks },
     ghost valid: { ∥ ValidMesh (mesh_of names world outs.items marks) ∥₁ },
@@ -45,8 +55,10 @@ pub struct Engine<const N: usize, const G: usize> {
 ghost use Rattle.amr_engine.specs.EngineMesh.{IsLaidOut, mesh_of};
 ghost use Rattle.mesh_model.specs.Fields.Ranks.{IsFit};
 ghost use Rattle.mesh_model.specs.Fields.Valid.{ValidMesh};
+ghost use Rattle.mesh_model.specs.Images.Reading.{NamesFit};
 ghost use Rattle.mesh_model.specs.Language.Commands.{IsGroup};
 ghost use Rattle.mesh_model.specs.Run.Texts.{group_name};
+ghost use Rattle.std.proofs.Props.{props};
 ghost use Rattle.std.specs.Prelude.{◌≡◌, ◌↔◌, ◌≤◌, None, IfOk, MatchResult, Ok, Err, length, pos, replicate};
 
 /// A call that prints stops a command where the sink fails.
@@ -64,6 +76,16 @@ fn zero_outs(alloc: Global, variables: u32) -> Result<Vec<i128>, OutOfMemory>
     ensures { IfOk result (λ list. list.items ≡ replicate variables (pos 0)) }
 {
     match vec![in alloc; 0i128; variables as usize] {
+        Ok(list) => Ok(list),
+        Err(_) => Err(OutOfMemory),
+    }
+}
+
+/// Room for a piece of an image.
+fn piece_room(alloc: Global) -> Result<Vec<u8>, OutOfMemory>
+    ensures { IfOk result (λ list. length list.items ≡ 65536) }
+{
+    match vec![in alloc; 0u8; PIECE] {
         Ok(list) => Ok(list),
         Err(_) => Err(OutOfMemory),
     }
@@ -114,7 +136,10 @@ impl<const N: usize, const G: usize> Engine<N, G> {
     ghost use Rattle.amr_engine.specs.Plain.{declared_of, plain};
     ghost use Rattle.amr_engine.specs.Regions.{IsRegionOf, filled};
     ghost use Rattle.amr_engine.specs.MarkedWhere.{marked_where, number_of};
-    ghost use Rattle.amr_engine.specs.Stopping.{Acts, Changes, IsCause};
+    ghost use Rattle.check_format.specs.ReadImages.{IsRead, stored_in};
+    ghost use Rattle.mesh_model.specs.Images.Image as images;
+    ghost use Rattle.amr_engine.specs.Saving.{CountsFault, HasSaved, StaysWhole};
+    ghost use Rattle.amr_engine.specs.Stopping.{Acts, Changes, IsCause, stopped_by};
     ghost use Rattle.amr_report.specs.Printing.{Prints};
     ghost use Rattle.mesh_model.specs.Language.Commands.{AreThree, IsCellVariable, IsCommandOf, IsGroup, IsLeafNumber, IsLineOf, IsPlace};
     ghost use Rattle.mesh_model.specs.Geometry.Limits.{IsShape};
@@ -122,18 +147,18 @@ impl<const N: usize, const G: usize> Engine<N, G> {
     ghost use Rattle.guard_fill.specs.Guarding.{LeavesGuardedOf};
     ghost use Rattle.amr_engine.specs.Guards.{field_of};
     ghost use Rattle.rank_world.specs.Holding.{IsOfMesh};
-    ghost use Rattle.mesh_model.specs.Run.Runs.{KeepsBalance, KeepsOuts, KeepsTotals, StaysPositive, mesh_after, text_of};
+    ghost use Rattle.mesh_model.specs.Run.Runs.{KeepsBalance, KeepsOuts, KeepsTotals, StaysPositive, TheDisk, mesh_after, needs, saved_by, text_of};
     ghost use Rattle.mesh_model.specs.Fields.Start.{start_mesh};
     ghost use Rattle.mesh_model.specs.Run.Stops.{refusal};
     ghost use Rattle.mesh_model.specs.Run.Texts.{netflux_text, total_text, variable_text};
     ghost use Rattle.outside_io.specs.Moved.{Takes};
-    ghost use Rattle.std.specs.Prelude.{◌≤◌, ◌^◌, true, IfErr, IfOk, IsSome, OnErr, OnOk, length};
+    ghost use Rattle.std.specs.Prelude.{◌≢◌, ◌≤◌, ◌^◌, ◌∷◌, [], true, IfErr, IfOk, IsSome, OnErr, OnOk, length};
 
     /// The start mesh of what was declared: all contents 0. `N` and `G` are the shape's.
     pub fn new(alloc: Global, declared: Declared) -> Result<Engine<N, G>, OutOfMemory>
         requires shape { IsShape declared.shape }
         requires sizes { IsSized N G declared.shape }
-        requires few { length declared.names.cells ≤ 4 }
+        requires names { NamesFit declared.names }
         ensures mesh { IfOk result (λ engine. plain engine ≡ start_mesh declared.shape declared.names) }
         ensures declared { IfOk result (λ engine. declared_of engine ≡ declared) }
     {
@@ -149,12 +174,50 @@ impl<const N: usize, const G: usize> Engine<N, G> {
         let world = World::new(alloc, shape, layout)?;
         let marks = Marks::empty(alloc, world.tree())?;
         let outs = zero_outs(alloc, variables)?;
+        let piece = piece_room(alloc)?;
         Ok(Engine {
             alloc,
             names,
             world,
             marks,
             outs,
+            piece,
+        })
+    }
+
+    /// The mesh of an image: its tree, its marks, its numbers and what has flowed out, as they were saved. `N` and `G` are the
+    /// shape's.
+    pub fn restore(alloc: Global, image: Image) -> Result<Engine<N, G>, OutOfMemory>
+        requires read { IsRead image }
+        requires sizes { IsSized N G image.declared.shape }
+        ensures mesh { IfOk result (λ engine. plain engine ≡ images.mesh_of (stored_in image)) }
+        ensures declared { IfOk result (λ engine. declared_of engine ≡ image.declared) }
+    {
+        let Image {
+            declared,
+            tree,
+            marks,
+            outs,
+            cells,
+            faces,
+            edges,
+            ..
+        } = image;
+        let Declared { names, .. } = declared;
+        let layout = Layout {
+            cells: names.cells(),
+            faces: face_variables(&names),
+            edges: edge_variables(&names),
+        };
+        let world = world_of(alloc, tree, layout, &cells, &faces, &edges)?;
+        let piece = piece_room(alloc)?;
+        Ok(Engine {
+            alloc,
+            names,
+            world,
+            marks,
+            outs,
+            piece,
         })
     }
 
@@ -173,7 +236,7 @@ impl<const N: usize, const G: usize> Engine<N, G> {
         &self.world
     }
 
-    /// Does the command of a line: changes the mesh, or prints.
+    /// Does the command of a line: changes the mesh, prints, or saves.
     pub fn command<K: Sink, D: Disk>(
         &mut self,
         line: &Line,
@@ -186,8 +249,8 @@ impl<const N: usize, const G: usize> Engine<N, G> {
         ensures text { OnOk result (Takes (K.taken sink.old) (text_of (plain self.old) line.now.command) (K.taken sink.new)) }
         ensures calm { OnOk result (K.faults sink.new ≡ K.faults sink.old) }
 
-        // It stops exactly where the mesh refuses the command, or where what the command needs fails, be it the sink or memory; it
-        // leaves the mesh then.
+        // It stops exactly where the mesh refuses the command, or where what the command needs fails, be it the sink, the disk or
+        // memory; it leaves the mesh then.
         ensures allowed { OnOk result (refusal (plain self.old) line.now.command ≡ None) }
         ensures line { IfErr result (λ stop. stop.line ≡ line.now.number) }
         ensures cause { IfErr result (λ stop. IsCause stop.cause (plain self.old) line.now.command (record { before = K.taken sink.old; after = K.taken sink.new; faults = K.faults sink.old; new_faults = K.faults sink.new })) }
@@ -202,11 +265,16 @@ impl<const N: usize, const G: usize> Engine<N, G> {
         ensures balanced { OnOk result (MakesBalance (plain self.old) line.now.command (plain self.new)) }
         ensures valid { ValidMesh (plain self.new) }
 
-        // No command calls the disk, and what was declared stays.
-        ensures disk { disk.new ≡ disk.old }
+        // Only a checkpoint calls the disk. Where nothing was pending and nothing is damaged, the disk stopped at any moment holds
+        // what was held or the mesh of the checkpoint, whole; and after a checkpoint that is done the disk rests on that mesh.
+        ensures disk { needs line.now.command ≢ TheDisk → disk.new ≡ disk.old }
+        ensures whole { StaysWhole D.holds D.may_leave D.moment D.left_since (saved_by (plain self.old) line.now.command) disk.old disk.new }
+        ensures saved { OnOk result (HasSaved D.holds D.may_leave (saved_by (plain self.old) line.now.command) disk.old disk.new) }
+        ensures disk_calm { OnOk result (D.faults disk.new ≡ D.faults disk.old) }
+        ensures disk_fault { IfErr result (λ stop. CountsFault (stopped_by stop.cause) (D.faults disk.old) (D.faults disk.new)) }
         ensures declared { declared_of self.new ≡ declared_of self.old }
     {
-        match self.act(line.command, sink) {
+        match self.carry_out(line.command, sink, disk) {
             Ok(()) => Ok(()),
             Err(cause) => Err(Stop {
                 line: line.number,
@@ -215,10 +283,50 @@ impl<const N: usize, const G: usize> Engine<N, G> {
         }
     }
 
-    /// Does a command.
+    /// Does a command, on the disk or apart from it.
+    fn carry_out<K: Sink, D: Disk>(
+        &mut self,
+        command: Command,
+        sink: &mut K,
+        disk: &mut D,
+    ) -> Result<(), Cause>
+        requires fits { IsCommandOf (declared_of self.old) command }
+        requires built { is_built_command command ≡ true }
+        ensures acts { Acts result (plain self.old) command (plain self.new) (record { before = K.taken sink.old; after = K.taken sink.new; faults = K.faults sink.old; new_faults = K.faults sink.new }) }
+        ensures disk { needs command ≢ TheDisk → disk.new ≡ disk.old }
+        ensures whole { StaysWhole D.holds D.may_leave D.moment D.left_since (saved_by (plain self.old) command) disk.old disk.new }
+        ensures saved { OnOk result (HasSaved D.holds D.may_leave (saved_by (plain self.old) command) disk.old disk.new) }
+        ensures disk_calm { OnOk result (D.faults disk.new ≡ D.faults disk.old) }
+        ensures disk_fault { IfErr result (λ cause. CountsFault (stopped_by cause) (D.faults disk.old) (D.faults disk.new)) }
+        ensures declared { declared_of self.new ≡ declared_of self.old }
+    {
+        match command {
+            Command::Checkpoint => self.checkpoint(disk),
+            _ => self.act(command, sink),
+        }
+    }
+
+    /// Saves the mesh on the disk, in the area that is not the newer one.
+    fn checkpoint<D: Disk>(&mut self, disk: &mut D) -> Result<(), Cause>
+        ensures changes { Changes result (plain self.old) Command.Checkpoint (plain self.new) }
+        ensures whole { StaysWhole D.holds D.may_leave D.moment D.left_since (plain self.old ∷ []) disk.old disk.new }
+        ensures saved { OnOk result (HasSaved D.holds D.may_leave (plain self.old ∷ []) disk.old disk.new) }
+        ensures disk_calm { OnOk result (D.faults disk.new ≡ D.faults disk.old) }
+        ensures disk_fault { IfErr result (λ cause. CountsFault (stopped_by cause) (D.faults disk.old) (D.faults disk.new)) }
+        ensures declared { declared_of self.new ≡ declared_of self.old }
+    {
+        let mut pieces = MeshPieces::new(&self.names, &self.world, &self.marks, &self.outs);
+        match save(disk, &mut pieces, &mut self.piece) {
+            Ok(()) => Ok(()),
+            Err(Failed) => Err(Cause::DiskFault),
+        }
+    }
+
+    /// Does a command that leaves the disk.
     fn act<K: Sink>(&mut self, command: Command, sink: &mut K) -> Result<(), Cause>
         requires fits { IsCommandOf (declared_of self.old) command }
         requires built { is_built_command command ≡ true }
+        requires aside { needs command ≢ TheDisk }
         ensures acts { Acts result (plain self.old) command (plain self.new) (record { before = K.taken sink.old; after = K.taken sink.new; faults = K.faults sink.old; new_faults = K.faults sink.new }) }
         ensures declared { declared_of self.new ≡ declared_of self.old }
     {

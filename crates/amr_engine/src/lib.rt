@@ -9,6 +9,7 @@ pub mod laws;
 mod marking;
 pub mod netting;
 mod region;
+mod saving;
 mod totals;
 
 pub use mesh_model::Group;

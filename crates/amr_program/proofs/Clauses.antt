@@ -1,10 +1,16 @@
 -- What the clauses of the program say follows from how its run ended.
-use Rattle.std.proofs.Common.{◌≡◌, ◌≢◌, ℕ, Bool, true, false, if◌then◌else◌, ◌<◌, ◌++◌, ◌⊎◌, List, [], ◌∷◌, Option, Some, None, Result, Ok, Err, inl, inr, refl, sym, ap, subst, ◌∙◌, arith, IfSome, take, drop, map}
+use Rattle.std.proofs.Common.{◌≡◌, ◌≢◌, ℕ, zero, suc, Bool, true, false, if◌then◌else◌, ◌<◌, ◌≤◌, ◌+◌, ◌++◌, ◌⊎◌, List, [], ◌∷◌, Option, Some, None, IsSome, Result, Ok, Err, inl, inr, refl, sym, ap, subst, ◌∙◌, arith, IfSome, length, take, drop, map, append-nil, length-append}
 use Rattle.mesh_model.specs.Language.Commands.{PlainScript}
 use Rattle.amr_engine.specs.Built.{is_built}
 use Rattle.mesh_model.specs.Language.Grammar.{Fault, script_of}
-use Rattle.mesh_model.specs.Run.Runs.{Refused}
-use Rattle.outside_io.specs.Moved.{Rose, Takes}
+use Rattle.mesh_model.specs.Fields.Plain.{Mesh}
+use Rattle.mesh_model.specs.Images.Held.{DamagedA, DamagedB, Found, Held, Nothing, held}
+use Rattle.std.specs.Prelude.{nat_lt}
+use Rattle.mesh_model.specs.Run.Runs.{Refused, texts}
+use Rattle.mesh_model.specs.declared.images.BadImage.{BadImage}
+use Rattle.mesh_model.specs.declared.language.script.Declared.{Declared}
+use Rattle.outside_io.specs.Areas.{Areas}
+use Rattle.outside_io.specs.Moved.{Rose, Takes, TakesPrefix}
 use Rattle.amr_engine.specs.Stopping.{Written, WrotePart}
 use Rattle.mesh_model.specs.declared.run.stops.Refusal as stops
 use Rattle.mesh_model.specs.declared.run.stops.Refusal.TheVariants as why
@@ -13,275 +19,593 @@ use Rattle.amr_program.specs.declared.status.Status.{Status}
 use Rattle.amr_program.specs.declared.status.Status.TheVariants as status
 use Rattle.amr_program.specs.declared.not_run.NotRun.{NotRun}
 use Rattle.amr_program.specs.declared.not_run.NotRun.TheVariants as reasons
-use Rattle.amr_program.specs.Answer.{IsAccepted, IsAnswer, IsRefused, IsStoppedWith, MayPrint, MayWant, TookBeforeMemory, TookPart, admitted, answer_of, first_texts, ending, most_read, plain_answer, read_in, script_in, status_of, stop_in}
-use Rattle.amr_program.specs.Lines.{memory_line, read_line, words_line}
-use Rattle.amr_program.proofs.Commands.{at_first}
-use Rattle.amr_program.specs.Outcome.{Ended, Failed, Outcome, Source}
+use Rattle.amr_program.specs.declared.words.Start.{Start}
+use Rattle.amr_program.specs.declared.words.Start.TheVariants.{New, Restart}
+use Rattle.amr_program.specs.Answer.{IsAccepted, IsAnswer, IsDamagedIn, IsStoppedWith, IsTold, IsUnrunWith, Job, KeepsOff, MayEnd, MayFail, MayPrint, MayWant, TookBeforeFault, TookBeforeMemory, TookPart, answer_of, count_in, done_in, ending, first_texts, held_in, job_by, job_from, job_of, most_read, restarted, start_in, status_of, status_unrun, stop_in}
+use Rattle.amr_program.specs.Lasting.{DiskRun, EndsAfter, HasLine, TookBetween, reach}
+use Rattle.amr_program.specs.Lines.{disk_line, memory_line, read_line, words_line}
+use Rattle.amr_program.specs.Outcome.{BeginsAt, ByBytes, ByWords, Came, Ended, FromBytes, LastsAt, OfJob, Outcome, Source, Unheld}
+use Rattle.amr_program.proofs.Coming.{at_first, firsts_short, refused_came}
+use Rattle.amr_program.proofs.Commands.{cut_line, took_part}
+use Rattle.std.proofs.Math.Seq.{take-length}
 
 -- ---- facts of a value that may be there
 
-always : {A : Type 0} (o : Option A) (P : A → Type 0) → ((x : A) → P x) → IfSome o P
+pub always : {A : Type 0} (o : Option A) (P : A → Type 0) → ((x : A) → P x) → IfSome o P
 always None P h = tt
 always (Some x) P h = h x
 
-carried : {A : Type 0} (o : Option A) (P Q : A → Type 0) → IfSome o P → ((x : A) → P x → Q x) → IfSome o Q
+pub carried : {A : Type 0} (o : Option A) (P Q : A → Type 0) → IfSome o P → ((x : A) → P x → Q x) → IfSome o Q
 carried None P Q h f = tt
 carried (Some x) P Q h f = f x h
 
--- where the texts of the words are none, so are the words
-pub no_words : {A : Type 0} (text : A → List ℕ) (words : List A) → map text words ≡ [] → words ≡ []
-no_words text [] e = refl
-no_words text (word ∷ words) e = cc
-
 -- ---- statuses
 
--- the statuses that a script's answer has
-of_script : Status → Bool
-of_script status.Done = true
-of_script status.Words = false
-of_script status.Script = true
-of_script status.Stopped = true
-of_script status.Level = true
-of_script status.ReadFault = false
-of_script status.WriteFault = false
-of_script status.OutOfMemory = false
+-- the statuses of a job that is run to its end or to a refused command
+of_run : Status → Bool
+of_run status.Done = true
+of_run status.Words = false
+of_run status.Script = false
+of_run status.Stopped = true
+of_run status.Level = true
+of_run status.ReadFault = false
+of_run status.WriteFault = false
+of_run status.DiskFault = false
+of_run status.Damaged = false
+of_run status.NoCheckpoint = false
+of_run status.OutOfMemory = false
 
-stops_with : (why : stops.Refusal) → (of_script (status_of why) ≡ true) × (status_of why ≢ status.Done) × (status_of why ≢ status.Script)
-unfolding of_script
-stops_with (why.Level stop) = (refl, (λ e. cc), (λ e. cc))
-stops_with other = (refl, (λ e. cc), (λ e. cc))
+-- those of what is not run
+of_unrun : Status → Bool
+of_unrun status.Done = false
+of_unrun status.Words = true
+of_unrun status.Script = true
+of_unrun status.Stopped = false
+of_unrun status.Level = false
+of_unrun status.ReadFault = false
+of_unrun status.WriteFault = false
+of_unrun status.DiskFault = false
+of_unrun status.Damaged = true
+of_unrun status.NoCheckpoint = true
+of_unrun status.OutOfMemory = false
 
-ends_with : (names : VariableNames) (o : Option Refused) → (of_script (ending names o).status ≡ true) × ((ending names o).status ≢ status.Script)
-unfolding of_script
-ends_with names None = (refl, (λ e. cc))
-ends_with names (Some refused) = let s = stops_with refused.why in (s.0, s.2)
+stops_with : (why : stops.Refusal) → of_run (status_of why) ≡ true
+unfolding of_run
+stops_with (why.Level stop) = refl
+stops_with other = refl
 
-answer_status : (read : Result PlainScript NotRun) → of_script (answer_of read).status ≡ true
-unfolding of_script
-answer_status (Ok s) = (ends_with s.declared.names (stop_in s)).0
-answer_status (Err f) = refl
+ends_with : (names : VariableNames) (o : Option Refused) → of_run (ending names o).status ≡ true
+unfolding of_run
+ends_with names None = refl
+ends_with names (Some refused) = stops_with refused.why
 
--- no other status is a script's answer
-not_answer : (read : Result PlainScript NotRun) (result other : Status) → result ≡ (answer_of read).status → result ≡ other → of_script other ≡ false → ⊥
-not_answer read result other is e never =
-    let ever : of_script other ≡ true = subst (λ s. of_script s ≡ true) (sym is ∙ e) (answer_status read) in
-    let odd : true ≡ false = sym ever ∙ never in cc
+unrun_with : (reason : NotRun) → of_unrun (status_unrun reason) ≡ true
+unfolding of_unrun
+unrun_with reasons.Words = refl
+unrun_with reasons.NoCheckpoint = refl
+unrun_with (reasons.Damaged area bad) = refl
+unrun_with (reasons.Fault line reason) = refl
+unrun_with reasons.NotBuilt = refl
 
-words_no : of_script status.Words ≡ false
-unfolding of_script
-words_no = refl
+both : {b : Bool} → b ≡ true → b ≡ false → ⊥
+both t f = let odd : true ≡ false = sym t ∙ f in cc
 
-read_no : of_script status.ReadFault ≡ false
-unfolding of_script
-read_no = refl
+-- an answer that has the status of no job that is run tells of none
+unrun_by : (job : Result Job NotRun) (result kind : Status) → result ≡ (answer_of job).status → result ≡ kind → of_run kind ≡ false → IsUnrunWith kind job
+unrun_by (Ok j) result kind is e never = absurd (both (subst (λ s. of_run s ≡ true) (sym is ∙ e) (ends_with j.mesh.names (stop_in j))) never)
+unrun_by (Err reason) result kind is e never = sym is ∙ e
 
-write_no : of_script status.WriteFault ≡ false
-unfolding of_script
-write_no = refl
-
-memory_no : of_script status.OutOfMemory ≡ false
-unfolding of_script
-memory_no = refl
-
--- the script by whether it is built
-abbrev admitted_by : Bool → PlainScript → Result PlainScript NotRun
-admitted_by built s = if built then Ok s else Err reasons.NotBuilt
-
-refused_by : (built : Bool) (s : PlainScript) → (answer_of (admitted_by built s)).status ≡ status.Script → built ≡ false
-refused_by true s e = absurd ((ends_with s.declared.names (stop_in s)).1 e)
-refused_by false s e = refl
-
-refused_read : (read : Result PlainScript Fault) → (answer_of (admitted read)).status ≡ status.Script → IsRefused read
-refused_read (Ok s) e = refused_by (is_built s 1 1) s e
-refused_read (Err f) e = tt
-
-accepted_by : (built : Bool) (s : PlainScript) → built ≡ true → stop_in s ≡ None → (answer_of (admitted_by built s)).status ≡ status.Done
-accepted_by true s h none = ap (λ o. (ending s.declared.names o).status) none
-accepted_by false s h none = cc
-
-accepted_read : (read : Result PlainScript Fault) → IsAccepted read → (answer_of (admitted read)).status ≡ status.Done
-accepted_read (Ok s) h = accepted_by (is_built s 1 1) s h.0 h.1
-accepted_read (Err f) h = absurd h
-
--- an answer with the status of a refused command tells of one
+-- and one that has that of a refused command tells of one
 stopped_by : (names : VariableNames) (o whole : Option Refused) (kind : Status) → whole ≡ o → (ending names o).status ≡ kind → kind ≢ status.Done → (refused : Refused) × (whole ≡ Some refused) × (status_of refused.why ≡ kind)
 stopped_by names None whole kind e is other = absurd (other (sym is))
 stopped_by names (Some refused) whole kind e is other = (refused, e, is)
 
-stopped_read : (read : Result PlainScript NotRun) (kind : Status) → (answer_of read).status ≡ kind → kind ≢ status.Done → kind ≢ status.Script → IsStoppedWith kind read
-stopped_read (Ok s) kind is not_done not_script = stopped_by s.declared.names (stop_in s) (stop_in s) kind refl is not_done
-stopped_read (Err reason) kind is not_done not_script = absurd (not_script (sym is))
+stopped_with : (job : Result Job NotRun) (result kind : Status) → result ≡ (answer_of job).status → result ≡ kind → kind ≢ status.Done → of_unrun kind ≡ false → IsStoppedWith kind job
+stopped_with (Ok j) result kind is e other never = stopped_by j.mesh.names (stop_in j) (stop_in j) kind refl (sym is ∙ e) other
+stopped_with (Err reason) result kind is e other never = absurd (both (subst (λ s. of_unrun s ≡ true) (sym is ∙ e) (unrun_with reason)) never)
 
-words_answer : (words : List (List ℕ)) (all : List ℕ) (result : Status) (w : Written) → words ≢ [] → result ≡ status.Words → Takes w.before words_line w.after → IsAnswer (plain_answer words all) result w.before w.after
-words_answer [] all result w some e takes = absurd (some refl)
-words_answer (word ∷ words) all result w some e takes = record { status_is = e; text_is = takes }
+not_answer : (job : Result Job NotRun) (result kind : Status) → result ≡ (answer_of job).status → result ≡ kind → of_run kind ≡ false → of_unrun kind ≡ false → ⊥
+not_answer (Ok j) result kind is e never nor = both (subst (λ s. of_run s ≡ true) (sym is ∙ e) (ends_with j.mesh.names (stop_in j))) never
+not_answer (Err reason) result kind is e never nor = both (subst (λ s. of_unrun s ≡ true) (sym is ∙ e) (unrun_with reason)) nor
 
-words_text : (words : List (List ℕ)) (all : List ℕ) → words ≢ [] → (plain_answer words all).text ≡ words_line
-words_text [] all some = absurd (some refl)
-words_text (word ∷ words) all some = refl
+done_by : (job : Result Job NotRun) → IsAccepted job → (answer_of job).status ≡ status.Done
+done_by (Ok j) none = ap (λ o. (ending j.mesh.names o).status) none
+done_by (Err reason) none = absurd none
 
-module _ (words : List (List ℕ)) (result : Status) (s : Source) (w : Written) where
-  pub answer : Outcome words result s w → ¬ Rose s.faults s.new_faults → ¬ Rose w.faults w.new_faults → result ≢ status.OutOfMemory → IfSome s.before (λ bytes. IsAnswer (plain_answer words bytes) result w.before w.after)
-  answer (inl o) quiet calm fed = elim o.ended [
-    | inl e ↦ always s.before _ (λ all. words_answer words all result w o.some e.0 e.1.takes)
-    | inr e ↦ absurd (calm e.1.rose)
+false_not : ◌≡◌ {A = Bool} false true → ⊥
+false_not e = cc e
+
+-- ---- what keeps a job from being run
+
+from_unrun_by : (built : Bool) (m : Mesh) (s : PlainScript) (kind : Status) → IsUnrunWith kind (if built then Ok (record { mesh = m; lines = s.lines }) else Err reasons.NotBuilt) → kind ≡ status.Script
+from_unrun_by true m s kind is = absurd is
+from_unrun_by false m s kind is = sym is
+
+from_unrun : (from : PlainScript → Mesh) (read : Result PlainScript Fault) (kind : Status) → IsUnrunWith kind (job_from from read) → kind ≡ status.Script
+from_unrun from (Ok s) kind is = from_unrun_by (is_built s 1 1) (from s) s kind is
+from_unrun from (Err fault) kind is = sym is
+
+module _ (says : Option Declared → Result PlainScript Fault) where
+  taken_words : (start : Start) (h : Held Mesh BadImage) → IsUnrunWith status.Words (job_by (Some start) h says) → ⊥
+  taken_words New h is = cc (from_unrun _ _ _ is)
+  taken_words Restart Nothing is = cc is
+  taken_words Restart (DamagedA bad) is = cc is
+  taken_words Restart (DamagedB bad) is = cc is
+  taken_words Restart (Found m) is = cc (from_unrun _ _ _ is)
+
+  nothing_held : (start : Start) (h : Held Mesh BadImage) → IsUnrunWith status.NoCheckpoint (job_by (Some start) h says) → (start ≡ Restart) × (h ≡ Nothing)
+  nothing_held New h is = absurd (cc (from_unrun _ _ _ is))
+  nothing_held Restart Nothing is = (refl, refl)
+  nothing_held Restart (DamagedA bad) is = absurd (cc is)
+  nothing_held Restart (DamagedB bad) is = absurd (cc is)
+  nothing_held Restart (Found m) is = absurd (cc (from_unrun _ _ _ is))
+
+  damaged_held : (start : Start) (h : Held Mesh BadImage) → IsUnrunWith status.Damaged (job_by (Some start) h says) → (start ≡ Restart) × IsDamagedIn h
+  damaged_held New h is = absurd (cc (from_unrun _ _ _ is))
+  damaged_held Restart Nothing is = absurd (cc is)
+  damaged_held Restart (DamagedA bad) is = (refl, tt)
+  damaged_held Restart (DamagedB bad) is = (refl, tt)
+  damaged_held Restart (Found m) is = absurd (cc (from_unrun _ _ _ is))
+
+  -- a job is by what the disk tells
+  by_told : (start : Start) (told : Option Areas) (h : Held Mesh BadImage) → IsTold (Some start) told → IfSome told (λ areas. h ≡ held areas.a areas.b) → job_by (Some start) h says ≡ job_by (Some start) (held_in told) says
+  by_told New told h is known = refl
+  by_told Restart None h is known = absurd (false_not is)
+  by_told Restart (Some areas) h is known = ap (λ x. restarted x says) known
+
+lasts_calm : (job : Result Job NotRun) (k : ℕ) (d : DiskRun) → LastsAt job k d → d.calm
+lasts_calm (Ok j) k d lasts = lasts.calm
+lasts_calm (Err reason) k d lasts = lasts.0
+
+begins_rose : (job : Result Job NotRun) (k : ℕ) (d : DiskRun) → BeginsAt job k d → d.rose
+begins_rose (Ok j) k d begins = begins.rose
+begins_rose (Err reason) k d begins = absurd begins
+
+read_none : of_run status.ReadFault ≡ false
+unfolding of_run
+read_none = refl
+
+read_nor : of_unrun status.ReadFault ≡ false
+unfolding of_unrun
+read_nor = refl
+
+write_none : of_run status.WriteFault ≡ false
+unfolding of_run
+write_none = refl
+
+write_nor : of_unrun status.WriteFault ≡ false
+unfolding of_unrun
+write_nor = refl
+
+disk_none : of_run status.DiskFault ≡ false
+unfolding of_run
+disk_none = refl
+
+disk_nor : of_unrun status.DiskFault ≡ false
+unfolding of_unrun
+disk_nor = refl
+
+memory_none : of_run status.OutOfMemory ≡ false
+unfolding of_run
+memory_none = refl
+
+memory_nor : of_unrun status.OutOfMemory ≡ false
+unfolding of_unrun
+memory_nor = refl
+
+words_none : of_run status.Words ≡ false
+unfolding of_run
+words_none = refl
+
+script_none : of_run status.Script ≡ false
+unfolding of_run
+script_none = refl
+
+damaged_none : of_run status.Damaged ≡ false
+unfolding of_run
+damaged_none = refl
+
+checkpoint_none : of_run status.NoCheckpoint ≡ false
+unfolding of_run
+checkpoint_none = refl
+
+stopped_nor : of_unrun status.Stopped ≡ false
+unfolding of_unrun
+stopped_nor = refl
+
+level_nor : of_unrun status.Level ≡ false
+unfolding of_unrun
+level_nor = refl
+
+-- ---- what comes of a job
+
+between : (a c : Option (List ℕ)) (least : ℕ) (text : List ℕ) → least ≤ length text → Takes a text c → TookBetween least (length text) text a c
+between None c least text le takes = tt
+between (Some bytes) c least text le takes = (length text, le, omega arith, takes ∙ ap (λ t. Some (bytes ++ t)) (sym (take-length text)))
+
+module _ (job : Result Job NotRun) (result : Status) (w : Written) (d : DiskRun) where
+  came_answer : Came job result w d → ¬ d.rose → ¬ Rose w.faults w.new_faults → result ≢ status.OutOfMemory → IsAnswer (answer_of job) result w.before w.after
+  came_answer (inl a) firm calm fed = record { status_is = a.status_is; text_is = a.wrote.takes }
+  came_answer (inr (inl a)) firm calm fed = absurd (fed a.status_is)
+  came_answer (inr (inr (inl a))) firm calm fed = absurd (firm (begins_rose job a.commands d a.disk))
+  came_answer (inr (inr (inr a))) firm calm fed = absurd (calm a.rose)
+
+  came_unrun : (kind : Status) → of_run kind ≡ false → kind ≢ status.OutOfMemory → kind ≢ status.DiskFault → kind ≢ status.WriteFault → Came job result w d → result ≡ kind → IsUnrunWith kind job
+  came_unrun kind never fed firm whole (inl a) is = unrun_by job result kind a.status_is is never
+  came_unrun kind never fed firm whole (inr (inl a)) is = absurd (fed (sym is ∙ a.status_is))
+  came_unrun kind never fed firm whole (inr (inr (inl a))) is = absurd (firm (sym is ∙ a.status_is))
+  came_unrun kind never fed firm whole (inr (inr (inr a))) is = absurd (whole (sym is ∙ a.status_is))
+
+  came_stopped : (kind : Status) → kind ≢ status.Done → of_unrun kind ≡ false → kind ≢ status.OutOfMemory → kind ≢ status.DiskFault → kind ≢ status.WriteFault → Came job result w d → result ≡ kind → IsStoppedWith kind job
+  came_stopped kind other never fed firm whole (inl a) is = stopped_with job result kind a.status_is is other never
+  came_stopped kind other never fed firm whole (inr (inl a)) is = absurd (fed (sym is ∙ a.status_is))
+  came_stopped kind other never fed firm whole (inr (inr (inl a))) is = absurd (firm (sym is ∙ a.status_is))
+  came_stopped kind other never fed firm whole (inr (inr (inr a))) is = absurd (whole (sym is ∙ a.status_is))
+
+  -- no job ends so
+  came_never : (kind : Status) → of_run kind ≡ false → of_unrun kind ≡ false → kind ≢ status.OutOfMemory → kind ≢ status.DiskFault → kind ≢ status.WriteFault → Came job result w d → result ≡ kind → ⊥
+  came_never kind never nor fed firm whole (inl a) is = not_answer job result kind a.status_is is never nor
+  came_never kind never nor fed firm whole (inr (inl a)) is = fed (sym is ∙ a.status_is)
+  came_never kind never nor fed firm whole (inr (inr (inl a))) is = firm (sym is ∙ a.status_is)
+  came_never kind never nor fed firm whole (inr (inr (inr a))) is = whole (sym is ∙ a.status_is)
+
+  came_broken : Came job result w d → result ≡ status.DiskFault → d.rose
+  came_broken (inl a) is = absurd (not_answer job result _ a.status_is is disk_none disk_nor)
+  came_broken (inr (inl a)) is = absurd (cc (sym is ∙ a.status_is))
+  came_broken (inr (inr (inl a))) is = begins_rose job a.commands d a.disk
+  came_broken (inr (inr (inr a))) is = absurd (cc (sym is ∙ a.status_is))
+
+  came_faulty : Came job result w d → ¬ d.calm → ¬ Rose w.faults w.new_faults → (result ≡ status.DiskFault) × (k : ℕ) × MayFail job k × Takes w.before (first_texts job k ++ disk_line) w.after
+  came_faulty (inl a) moved calm = absurd (moved (lasts_calm job (count_in job) d a.disk))
+  came_faulty (inr (inl a)) moved calm = absurd (moved (lasts_calm job a.commands d a.disk))
+  came_faulty (inr (inr (inl a))) moved calm = (a.status_is, a.commands, a.fails, a.wrote.takes)
+  came_faulty (inr (inr (inr a))) moved calm = absurd (calm a.rose)
+
+  came_starved : Came job result w d → result ≡ status.OutOfMemory → TookBeforeMemory job w.before w.after
+  came_starved (inl a) is = absurd (not_answer job result _ a.status_is is memory_none memory_nor)
+  came_starved (inr (inl a)) is = (a.commands, a.wants, a.wrote.takes)
+  came_starved (inr (inr (inl a))) is = absurd (cc (sym is ∙ a.status_is))
+  came_starved (inr (inr (inr a))) is = absurd (cc (sym is ∙ a.status_is))
+
+  came_cut : Came job result w d → result ≡ status.WriteFault → Rose w.faults w.new_faults
+  came_cut (inl a) is = absurd (not_answer job result _ a.status_is is write_none write_nor)
+  came_cut (inr (inl a)) is = absurd (cc (sym is ∙ a.status_is))
+  came_cut (inr (inr (inl a))) is = absurd (cc (sym is ∙ a.status_is))
+  came_cut (inr (inr (inr a))) is = a.rose
+
+  came_whole : Came job result w d → w.faults < w.new_faults → result ≡ status.WriteFault
+  came_whole (inl a) more = let same = a.wrote.calm in absurd (omega arith)
+  came_whole (inr (inl a)) more = let same = a.wrote.calm in absurd (omega arith)
+  came_whole (inr (inr (inl a))) more = let same = a.wrote.calm in absurd (omega arith)
+  came_whole (inr (inr (inr a))) more = a.status_is
+
+  came_complete : Came job result w d → ¬ d.rose → ¬ Rose w.faults w.new_faults → IsAccepted job → (result ≡ status.Done) ⊎ (result ≡ status.OutOfMemory)
+  came_complete (inl a) firm calm accepted = inl (a.status_is ∙ done_by job accepted)
+  came_complete (inr (inl a)) firm calm accepted = inr a.status_is
+  came_complete (inr (inr (inl a))) firm calm accepted = absurd (firm (begins_rose job a.commands d a.disk))
+  came_complete (inr (inr (inr a))) firm calm accepted = absurd (calm a.rose)
+
+  -- the runs that leave the areas end otherwise
+  no_end : (kind : Status) → kind ≢ status.Words → kind ≢ status.ReadFault → kind ≢ status.NoCheckpoint → kind ≢ status.Damaged → kind ≢ status.Script → result ≡ kind → KeepsOff result → ⊥
+  no_end kind a b c e f is (inl h) = a (sym is ∙ h)
+  no_end kind a b c e f is (inr (inl h)) = b (sym is ∙ h)
+  no_end kind a b c e f is (inr (inr (inl h))) = c (sym is ∙ h)
+  no_end kind a b c e f is (inr (inr (inr (inl h)))) = e (sym is ∙ h)
+  no_end kind a b c e f is (inr (inr (inr (inr h)))) = f (sym is ∙ h)
+
+  all_taken : (of : Result Job NotRun) (k : ℕ) (line : List ℕ) → Takes w.before (first_texts of k ++ line) w.after → HasLine of k line w.before w.after
+  all_taken of k line takes = between w.before w.after (length (first_texts of k)) (first_texts of k ++ line) (let long = length-append (first_texts of k) line in omega arith) takes
+
+  if_short : (b : Bool) (x y z : ℕ) → x ≤ z → y ≤ z → (if b then x else y) ≤ z
+  if_short true x y z p q = p
+  if_short false x y z p q = q
+
+  reach_short : (of : Result Job NotRun) (k : ℕ) → reach of k ≤ length (answer_of of).text
+  reach_short (Ok j) k =
+      let first = firsts_short j.mesh (done_in j) (k + 1) in
+      let all = length-append (texts j.mesh (done_in j)) (ending j.mesh.names (stop_in j)).text in
+      let whole = (answer_of (Ok j)).text in
+      let some : length (first_texts (Ok j) (k + 1)) ≤ length whole = omega arith in
+      if_short (nat_lt k (count_in (Ok j))) (length (first_texts (Ok j) (k + 1))) (length whole) (length whole) some (omega arith)
+  reach_short (Err reason) k =
+      let whole = (answer_of (Err reason)).text in
+      if_short (nat_lt k 0) 0 (length whole) (length whole) (omega arith) (omega arith)
+
+  came_part : (start : Option Start) → Came job result w d → result ≡ status.WriteFault → (text : List ℕ) × ((text ≡ (answer_of job).text) ⊎ MayEnd start job d.rose text) × TakesPrefix w.before text w.after
+  came_part start (inl a) is = absurd (not_answer job result _ a.status_is is write_none write_nor)
+  came_part start (inr (inl a)) is = absurd (cc (sym is ∙ a.status_is))
+  came_part start (inr (inr (inl a))) is = absurd (cc (sym is ∙ a.status_is))
+  came_part start (inr (inr (inr a))) is = elim a.at [
+    | inl cut ↦ ((answer_of job).text, inl refl, took_part w.before w.after _ _ (answer_of job).text (reach_short job a.commands) cut.0.took)
+    | inr other ↦ elim other [
+      | inl line ↦ (first_texts job a.commands ++ memory_line, inr (inl (a.commands, line.0, refl)), took_part w.before w.after _ _ _ (omega arith) line.1)
+      | inr line ↦ (first_texts job a.commands ++ disk_line, inr (inr (begins_rose job a.commands d line.2, inr (a.commands, line.0, refl))), took_part w.before w.after _ _ _ (omega arith) line.1)
+    ]
   ]
-  answer (inr (inl o)) quiet calm fed = absurd (quiet o.rose)
-  answer (inr (inr (inl o))) quiet calm fed = elim o.ended [
+
+  -- where it ended, and what the disk went through
+  came_ends : (start : Option Start) (unread : Type 0) → Came job result w d → (k : ℕ) × EndsAfter start job k result unread d.rose w.before w.after × (LastsAt job k d ⊎ BeginsAt job k d)
+  came_ends start unread (inl a) = (count_in job, inr (inr (inl (refl, a.status_is, a.wrote.takes))), inl a.disk)
+  came_ends start unread (inr (inl a)) = (a.commands, inr (inr (inr (inr (inl (inl a.status_is, a.wants, all_taken job a.commands memory_line a.wrote.takes))))), inl a.disk)
+  came_ends start unread (inr (inr (inl a))) = (a.commands, inr (inr (inr (inr (inr (inl a.status_is, begins_rose job a.commands d a.disk, a.fails, all_taken job a.commands disk_line a.wrote.takes))))), inr a.disk)
+  came_ends start unread (inr (inr (inr a))) = elim a.at [
+    | inl cut ↦ (a.commands, inr (inr (inr (inl (a.status_is, cut.0)))), inl cut.1)
+    | inr other ↦ elim other [
+      | inl line ↦ (a.commands, inr (inr (inr (inr (inl (inr a.status_is, line.0, line.1))))), inl line.2)
+      | inr line ↦ (a.commands, inr (inr (inr (inr (inr (inr a.status_is, begins_rose job a.commands d line.2, line.0, line.1))))), inr line.2)
+    ]
+  ]
+
+  -- they are of no run
+  unrun_of : KeepsOff result → of_run result ≡ false
+  unfolding of_run
+  unrun_of (inl e) = ap of_run e
+  unrun_of (inr (inl e)) = ap of_run e
+  unrun_of (inr (inr (inl e))) = ap of_run e
+  unrun_of (inr (inr (inr (inl e)))) = ap of_run e
+  unrun_of (inr (inr (inr (inr e)))) = ap of_run e
+
+  left_alone : (of : Result Job NotRun) → LastsAt of (count_in of) d → of_run result ≡ false → result ≡ (answer_of of).status → d.untouched
+  left_alone (Ok j) lasts never is = absurd (both (subst (λ x. of_run x ≡ true) (sym is) (ends_with j.mesh.names (stop_in j))) never)
+  left_alone (Err reason) lasts never is = lasts.1
+
+  -- a run that did not run its job left the areas
+  came_untouched : Came job result w d → KeepsOff result → d.untouched
+  came_untouched (inl a) off = left_alone job a.disk (unrun_of off) a.status_is
+  came_untouched (inr (inl a)) off = absurd (no_end status.OutOfMemory (λ e. cc e) (λ e. cc e) (λ e. cc e) (λ e. cc e) (λ e. cc e) a.status_is off)
+  came_untouched (inr (inr (inl a))) off = absurd (no_end status.DiskFault (λ e. cc e) (λ e. cc e) (λ e. cc e) (λ e. cc e) (λ e. cc e) a.status_is off)
+  came_untouched (inr (inr (inr a))) off = absurd (no_end status.WriteFault (λ e. cc e) (λ e. cc e) (λ e. cc e) (λ e. cc e) (λ e. cc e) a.status_is off)
+
+-- ---- a run from its words on
+
+no_start : {start : Option Start} → start ≡ None → IsSome start → ⊥
+no_start none some = false_not (subst IsSome none some)
+
+-- a line before any command
+line_alone : (a c : Option (List ℕ)) (job : Result Job NotRun) (line : List ℕ) → TookBetween 0 (length line) line a c → HasLine job 0 line a c
+line_alone a c (Ok j) line took = took
+line_alone a c (Err reason) line took = took
+
+module _ (words : List (List ℕ)) (told : Option Areas) (result : Status) (s : Source) (w : Written) (d : DiskRun) where
+  -- what is so of the job that was run
+  on_bytes : (o : ByBytes words told result s w d) (of : OfJob (Some o.start) told o.bytes result w d) (P : Option Start → Result Job NotRun → Type 0) → IsTold (start_in words) told → P (Some o.start) (job_by (Some o.start) of.holds (λ given. script_of given o.bytes)) →
+      IfSome s.before (λ all. P (start_in words) (job_of (start_in words) (held_in told) all))
+  on_bytes o of P is_told p =
+      carried s.before _ _ o.left
+      (λ all h.
+      subst (λ st. P st (job_of st (held_in told) all)) (sym o.taken)
+      (subst (P (Some o.start)) (by_told (λ given. script_of given o.bytes) o.start told of.holds (subst (λ st. IsTold st told) o.taken is_told) of.known ∙ ap (λ b. job_by (Some o.start) (held_in told) (λ given. script_of given b)) h.0) p))
+
+  on_words : start_in words ≡ None → (P : Option Start → Result Job NotRun → Type 0) → P None (Err reasons.Words) → IfSome s.before (λ all. P (start_in words) (job_of (start_in words) (held_in told) all))
+  on_words refused P p = always s.before _ (λ all. subst (λ st. P st (job_of st (held_in told) all)) (sym refused) p)
+
+  -- what is so of every job
+  on_all : (P : Option Start → Result Job NotRun → Type 0) → ((job : Result Job NotRun) → P (start_in words) job) → IfSome s.before (λ all. P (start_in words) (job_of (start_in words) (held_in told) all))
+  on_all P each = always s.before _ (λ all. each (job_of (start_in words) (held_in told) all))
+
+  words_came : ByWords words result s w d → Came (Err reasons.Words) result w d
+  words_came o = refused_came reasons.Words result w d o.disk_calm o.untouched (inl o.ended)
+
+  taken_some : (o : ByBytes words told result s w d) → IsSome (start_in words)
+  taken_some o = subst IsSome (sym o.taken) refl
+
+  pub answer : Outcome words told result s w d → IsTold (start_in words) told → ¬ Rose s.faults s.new_faults → ¬ d.rose → ¬ Rose w.faults w.new_faults → result ≢ status.OutOfMemory →
+      IfSome s.before (λ bytes. IsAnswer (answer_of (job_of (start_in words) (held_in told) bytes)) result w.before w.after)
+  answer (inl o) is_told quiet firm calm fed = on_words o.refused (λ st job. IsAnswer (answer_of job) result w.before w.after) (came_answer (Err reasons.Words) result w d (words_came o) firm calm fed)
+  answer (inr (inl o)) is_told quiet firm calm fed = absurd (quiet o.rose)
+  answer (inr (inr (inl o))) is_told quiet firm calm fed = elim o.ended [
     | inl e ↦ absurd (fed e.0)
     | inr e ↦ absurd (calm e.1.rose)
   ]
-  answer (inr (inr (inr o))) quiet calm fed = elim o.came [
-    | inl a ↦ carried s.before _ _ o.left (λ all h. subst (λ ws. IsAnswer (plain_answer ws all) result w.before w.after) (sym o.none) (subst (λ b. IsAnswer (answer_of (admitted (script_of None b))) result w.before w.after) h.0 (record { status_is = a.status_is; text_is = a.wrote.takes })))
-    | inr other ↦ elim other [ inl a ↦ absurd (fed a.status_is) | inr a ↦ absurd (calm a.wrote.rose) ]
+  answer (inr (inr (inr o))) is_told quiet firm calm fed = elim o.from [
+    | inl u ↦ absurd (firm u.rose)
+    | inr of ↦ on_bytes o of (λ st job. IsAnswer (answer_of job) result w.before w.after) is_told (came_answer _ result w d of.came firm calm fed)
   ]
 
-  pub words_refused : Outcome words result s w → result ≡ status.Words → words ≢ []
-  words_refused (inl o) is = o.some
-  words_refused (inr (inl o)) is = elim o.ended [ inl e ↦ absurd (cc e.0) | inr e ↦ absurd (cc e.0) ]
-  words_refused (inr (inr (inl o))) is = elim o.ended [ inl e ↦ absurd (cc e.0) | inr e ↦ absurd (cc e.0) ]
-  words_refused (inr (inr (inr o))) is = elim o.came [
-    | inl a ↦ absurd (not_answer (admitted (script_of None o.bytes)) result _ a.status_is is words_no)
-    | inr other ↦ elim other [ inl a ↦ absurd (cc a.status_is) | inr a ↦ absurd (cc a.status_is) ]
+  -- what is told of a status that jobs alone have
+  of_job : (kind : Status) (P : Option Start → Result Job NotRun → Type 0) → kind ≢ status.ReadFault → kind ≢ status.OutOfMemory → kind ≢ status.DiskFault → kind ≢ status.WriteFault
+      → ((st : Option Start) (job : Result Job NotRun) → Came job result w d → result ≡ kind → P st job) → Outcome words told result s w d → result ≡ kind → IsTold (start_in words) told → IfSome s.before (λ bytes. P (start_in words) (job_of (start_in words) (held_in told) bytes))
+  of_job kind P not_read not_memory not_disk not_write each (inl o) is is_told = on_words o.refused P (each None (Err reasons.Words) (words_came o) is)
+  of_job kind P not_read not_memory not_disk not_write each (inr (inl o)) is is_told = elim o.ended [ inl e ↦ absurd (not_read (sym is ∙ e.0)) | inr e ↦ absurd (not_write (sym is ∙ e.0)) ]
+  of_job kind P not_read not_memory not_disk not_write each (inr (inr (inl o))) is is_told = elim o.ended [ inl e ↦ absurd (not_memory (sym is ∙ e.0)) | inr e ↦ absurd (not_write (sym is ∙ e.0)) ]
+  of_job kind P not_read not_memory not_disk not_write each (inr (inr (inr o))) is is_told = elim o.from [
+    | inl u ↦ elim u.ended [ inl e ↦ absurd (not_disk (sym is ∙ e.0)) | inr e ↦ absurd (not_write (sym is ∙ e.0)) ]
+    | inr of ↦ on_bytes o of P is_told (each (Some o.start) (job_by (Some o.start) of.holds (λ given. script_of given o.bytes)) of.came is)
   ]
 
-  pub words_alone : Outcome words result s w → words ≢ [] → (result ≡ status.Words) ⊎ (result ≡ status.WriteFault)
-  words_alone (inl o) some = elim o.ended [ inl e ↦ inl e.0 | inr e ↦ inr e.0 ]
-  words_alone (inr (inl o)) some = absurd (some o.none)
-  words_alone (inr (inr (inl o))) some = absurd (some o.none)
-  words_alone (inr (inr (inr o))) some = absurd (some o.none)
+  pub script_refused : Outcome words told result s w d → result ≡ status.Script → IsTold (start_in words) told → IfSome s.before (λ bytes. IsUnrunWith status.Script (job_of (start_in words) (held_in told) bytes))
+  script_refused = of_job status.Script (λ st job. IsUnrunWith status.Script job) (λ e. cc e) (λ e. cc e) (λ e. cc e) (λ e. cc e) (λ st job came is. came_unrun job result w d status.Script script_none (λ e. cc e) (λ e. cc e) (λ e. cc e) came is)
 
-  pub script_refused : Outcome words result s w → result ≡ status.Script → (words ≡ []) × IfSome s.before (λ bytes. IsRefused (read_in bytes))
-  script_refused (inl o) is = elim o.ended [ inl e ↦ absurd (cc e.0) | inr e ↦ absurd (cc e.0) ]
-  script_refused (inr (inl o)) is = elim o.ended [ inl e ↦ absurd (cc e.0) | inr e ↦ absurd (cc e.0) ]
-  script_refused (inr (inr (inl o))) is = elim o.ended [ inl e ↦ absurd (cc e.0) | inr e ↦ absurd (cc e.0) ]
-  script_refused (inr (inr (inr o))) is = elim o.came [
-    | inl a ↦ (o.none, carried s.before _ _ o.left (λ all h. subst (λ b. IsRefused (script_of None b)) h.0 (refused_read (script_of None o.bytes) (sym a.status_is ∙ is))))
-    | inr other ↦ elim other [ inl a ↦ absurd (cc a.status_is) | inr a ↦ absurd (cc a.status_is) ]
+  pub stopped : Outcome words told result s w d → result ≡ status.Stopped → IsTold (start_in words) told → IfSome s.before (λ bytes. IsStoppedWith status.Stopped (job_of (start_in words) (held_in told) bytes))
+  stopped = of_job status.Stopped (λ st job. IsStoppedWith status.Stopped job) (λ e. cc e) (λ e. cc e) (λ e. cc e) (λ e. cc e) (λ st job came is. came_stopped job result w d status.Stopped (λ e. cc e) stopped_nor (λ e. cc e) (λ e. cc e) (λ e. cc e) came is)
+
+  pub level : Outcome words told result s w d → result ≡ status.Level → IsTold (start_in words) told → IfSome s.before (λ bytes. IsStoppedWith status.Level (job_of (start_in words) (held_in told) bytes))
+  level = of_job status.Level (λ st job. IsStoppedWith status.Level job) (λ e. cc e) (λ e. cc e) (λ e. cc e) (λ e. cc e) (λ st job came is. came_stopped job result w d status.Level (λ e. cc e) level_nor (λ e. cc e) (λ e. cc e) (λ e. cc e) came is)
+
+  -- the status of a job that is not run
+  unrun : (kind : Status) → of_run kind ≡ false → kind ≢ status.ReadFault → kind ≢ status.OutOfMemory → kind ≢ status.DiskFault → kind ≢ status.WriteFault → Outcome words told result s w d → result ≡ kind →
+      ((start_in words ≡ None) × (kind ≡ status.Words)) ⊎ ((start : Start) × (h : Held Mesh BadImage) × (says : (Option Declared → Result PlainScript Fault)) × (start_in words ≡ Some start) × IfSome told (λ areas. h ≡ held areas.a areas.b) × IsUnrunWith kind (job_by (Some start) h says))
+  unrun kind never not_read not_memory not_disk not_write (inl o) is = inl (o.refused, sym (came_unrun _ result w d kind never not_memory not_disk not_write (words_came o) is))
+  unrun kind never not_read not_memory not_disk not_write (inr (inl o)) is = elim o.ended [ inl e ↦ absurd (not_read (sym is ∙ e.0)) | inr e ↦ absurd (not_write (sym is ∙ e.0)) ]
+  unrun kind never not_read not_memory not_disk not_write (inr (inr (inl o))) is = elim o.ended [ inl e ↦ absurd (not_memory (sym is ∙ e.0)) | inr e ↦ absurd (not_write (sym is ∙ e.0)) ]
+  unrun kind never not_read not_memory not_disk not_write (inr (inr (inr o))) is = elim o.from [
+    | inl u ↦ elim u.ended [ inl e ↦ absurd (not_disk (sym is ∙ e.0)) | inr e ↦ absurd (not_write (sym is ∙ e.0)) ]
+    | inr of ↦ inr (o.start, of.holds, (λ given. script_of given o.bytes), o.taken, of.known, came_unrun _ result w d kind never not_memory not_disk not_write of.came is)
   ]
 
-  -- a command was refused with this status
-  refused_with : (kind : Status) → kind ≢ status.Done → kind ≢ status.Script → kind ≢ status.Words → kind ≢ status.ReadFault → kind ≢ status.WriteFault → kind ≢ status.OutOfMemory →
-      Outcome words result s w → result ≡ kind → (words ≡ []) × IfSome s.before (λ bytes. IsStoppedWith kind (script_in bytes))
-  refused_with kind not_done not_script not_words not_read not_write not_memory (inl o) is = elim o.ended [ inl e ↦ absurd (not_words (sym is ∙ e.0)) | inr e ↦ absurd (not_write (sym is ∙ e.0)) ]
-  refused_with kind not_done not_script not_words not_read not_write not_memory (inr (inl o)) is = elim o.ended [ inl e ↦ absurd (not_read (sym is ∙ e.0)) | inr e ↦ absurd (not_write (sym is ∙ e.0)) ]
-  refused_with kind not_done not_script not_words not_read not_write not_memory (inr (inr (inl o))) is = elim o.ended [ inl e ↦ absurd (not_memory (sym is ∙ e.0)) | inr e ↦ absurd (not_write (sym is ∙ e.0)) ]
-  refused_with kind not_done not_script not_words not_read not_write not_memory (inr (inr (inr o))) is = elim o.came [
-    | inl a ↦ (o.none, carried s.before _ _ o.left (λ all h. subst (λ b. IsStoppedWith kind (admitted (script_of None b))) h.0 (stopped_read (admitted (script_of None o.bytes)) kind (sym a.status_is ∙ is) not_done not_script)))
-    | inr other ↦ elim other [ inl a ↦ absurd (not_memory (sym is ∙ a.status_is)) | inr a ↦ absurd (not_write (sym is ∙ a.status_is)) ]
+  pub words_refused : Outcome words told result s w d → result ≡ status.Words → start_in words ≡ None
+  words_refused o is = elim (unrun status.Words words_none (λ e. cc e) (λ e. cc e) (λ e. cc e) (λ e. cc e) o is) [
+    | inl e ↦ e.0
+    | inr u ↦ absurd (taken_words u.2 u.0 u.1 u.5)
   ]
 
-  pub stopped : Outcome words result s w → result ≡ status.Stopped → (words ≡ []) × IfSome s.before (λ bytes. IsStoppedWith status.Stopped (script_in bytes))
-  stopped = refused_with status.Stopped (λ e. cc) (λ e. cc) (λ e. cc) (λ e. cc) (λ e. cc) (λ e. cc)
+  pub no_checkpoint : Outcome words told result s w d → result ≡ status.NoCheckpoint → (start_in words ≡ Some Restart) × IfSome told (λ areas. held areas.a areas.b ≡ Nothing)
+  no_checkpoint o is = elim (unrun status.NoCheckpoint checkpoint_none (λ e. cc e) (λ e. cc e) (λ e. cc e) (λ e. cc e) o is) [
+    | inl e ↦ absurd (cc e.1)
+    | inr u ↦ (let none = nothing_held u.2 u.0 u.1 u.5 in (u.3 ∙ ap Some none.0, carried told _ _ u.4 (λ areas h. sym h ∙ none.1)))
+  ]
 
-  pub level : Outcome words result s w → result ≡ status.Level → (words ≡ []) × IfSome s.before (λ bytes. IsStoppedWith status.Level (script_in bytes))
-  level = refused_with status.Level (λ e. cc) (λ e. cc) (λ e. cc) (λ e. cc) (λ e. cc) (λ e. cc)
+  pub damaged : Outcome words told result s w d → result ≡ status.Damaged → (start_in words ≡ Some Restart) × IfSome told (λ areas. IsDamagedIn (held areas.a areas.b))
+  damaged o is = elim (unrun status.Damaged damaged_none (λ e. cc e) (λ e. cc e) (λ e. cc e) (λ e. cc e) o is) [
+    | inl e ↦ absurd (cc e.1)
+    | inr u ↦ (let bad = damaged_held u.2 u.0 u.1 u.5 in (u.3 ∙ ap Some bad.0, carried told _ _ u.4 (λ areas h. subst IsDamagedIn h bad.1)))
+  ]
 
-  pub read_fault : Outcome words result s w → result ≡ status.ReadFault → Rose s.faults s.new_faults
-  read_fault (inl o) is = elim o.ended [ inl e ↦ absurd (cc e.0) | inr e ↦ absurd (cc e.0) ]
+  pub words_alone : Outcome words told result s w d → start_in words ≡ None → (result ≡ status.Words) ⊎ (result ≡ status.WriteFault)
+  words_alone (inl o) none = elim o.ended [ inl e ↦ inl e.0 | inr e ↦ inr e.0 ]
+  words_alone (inr (inl o)) none = absurd (no_start none o.taken)
+  words_alone (inr (inr (inl o))) none = absurd (no_start none o.taken)
+  words_alone (inr (inr (inr o))) none = let both : None ≡ Some o.start = sym none ∙ o.taken in absurd (cc both)
+
+  pub read_fault : Outcome words told result s w d → result ≡ status.ReadFault → Rose s.faults s.new_faults
+  read_fault (inl o) is = absurd (came_never _ result w d status.ReadFault read_none read_nor (λ e. cc e) (λ e. cc e) (λ e. cc e) (words_came o) is)
   read_fault (inr (inl o)) is = o.rose
-  read_fault (inr (inr (inl o))) is = elim o.ended [ inl e ↦ absurd (cc e.0) | inr e ↦ absurd (cc e.0) ]
-  read_fault (inr (inr (inr o))) is = elim o.came [
-    | inl a ↦ absurd (not_answer (admitted (script_of None o.bytes)) result _ a.status_is is read_no)
-    | inr other ↦ elim other [ inl a ↦ absurd (cc a.status_is) | inr a ↦ absurd (cc a.status_is) ]
+  read_fault (inr (inr (inl o))) is = elim o.ended [ inl e ↦ absurd (cc (sym is ∙ e.0)) | inr e ↦ absurd (cc (sym is ∙ e.0)) ]
+  read_fault (inr (inr (inr o))) is = elim o.from [
+    | inl u ↦ elim u.ended [ inl e ↦ absurd (cc (sym is ∙ e.0)) | inr e ↦ absurd (cc (sym is ∙ e.0)) ]
+    | inr of ↦ absurd (came_never _ result w d status.ReadFault read_none read_nor (λ e. cc e) (λ e. cc e) (λ e. cc e) of.came is)
   ]
 
-  pub read_fault_told : Outcome words result s w → s.faults < s.new_faults → ¬ Rose w.faults w.new_faults → (result ≡ status.ReadFault) × Takes w.before read_line w.after
+  pub read_fault_told : Outcome words told result s w d → s.faults < s.new_faults → ¬ Rose w.faults w.new_faults → (result ≡ status.ReadFault) × Takes w.before read_line w.after
   read_fault_told (inl o) more calm = let same = o.calm in absurd (omega arith)
   read_fault_told (inr (inl o)) more calm = elim o.ended [ inl e ↦ (e.0, e.1.takes) | inr e ↦ absurd (calm e.1.rose) ]
   read_fault_told (inr (inr (inl o))) more calm = let same = o.calm in absurd (omega arith)
   read_fault_told (inr (inr (inr o))) more calm = let same = o.calm in absurd (omega arith)
 
-  pub write_fault : Outcome words result s w → result ≡ status.WriteFault → Rose w.faults w.new_faults
-  write_fault (inl o) is = elim o.ended [ inl e ↦ absurd (cc e.0) | inr e ↦ e.1.rose ]
-  write_fault (inr (inl o)) is = elim o.ended [ inl e ↦ absurd (cc e.0) | inr e ↦ e.1.rose ]
-  write_fault (inr (inr (inl o))) is = elim o.ended [ inl e ↦ absurd (cc e.0) | inr e ↦ e.1.rose ]
-  write_fault (inr (inr (inr o))) is = elim o.came [
-    | inl a ↦ absurd (not_answer (admitted (script_of None o.bytes)) result _ a.status_is is write_no)
-    | inr other ↦ elim other [ inl a ↦ absurd (cc a.status_is) | inr a ↦ a.wrote.rose ]
+  pub disk_fault : Outcome words told result s w d → result ≡ status.DiskFault → d.rose
+  disk_fault (inl o) is = came_broken _ result w d (words_came o) is
+  disk_fault (inr (inl o)) is = elim o.ended [ inl e ↦ absurd (cc (sym is ∙ e.0)) | inr e ↦ absurd (cc (sym is ∙ e.0)) ]
+  disk_fault (inr (inr (inl o))) is = elim o.ended [ inl e ↦ absurd (cc (sym is ∙ e.0)) | inr e ↦ absurd (cc (sym is ∙ e.0)) ]
+  disk_fault (inr (inr (inr o))) is = elim o.from [ inl u ↦ u.rose | inr of ↦ came_broken _ result w d of.came is ]
+
+  pub disk_fault_told : Outcome words told result s w d → ¬ d.calm → ¬ Rose w.faults w.new_faults → IsTold (start_in words) told → (result ≡ status.DiskFault) × IfSome s.before (λ bytes. TookBeforeFault (start_in words) (job_of (start_in words) (held_in told) bytes) w.before w.after)
+  disk_fault_told (inl o) moved calm is_told = let f = came_faulty (Err reasons.Words) result w d (words_came o) moved calm in absurd f.2
+  disk_fault_told (inr (inl o)) moved calm is_told = absurd (moved o.disk_calm)
+  disk_fault_told (inr (inr (inl o))) moved calm is_told = absurd (moved o.disk_calm)
+  disk_fault_told (inr (inr (inr o))) moved calm is_told = elim o.from [
+    | inl u ↦ elim u.ended [
+      | inl e ↦ (e.0, on_all (λ st job. TookBeforeFault st job w.before w.after) (λ job. inl (o.taken ∙ u.restart, e.1.takes)))
+      | inr e ↦ absurd (calm e.1.rose)
+    ]
+    | inr of ↦ (let f = came_faulty _ result w d of.came moved calm in (f.0, on_bytes o of (λ st job. TookBeforeFault st job w.before w.after) is_told (inr (f.1, f.2, f.3))))
+  ]
+
+  pub write_fault : Outcome words told result s w d → result ≡ status.WriteFault → Rose w.faults w.new_faults
+  write_fault (inl o) is = came_cut _ result w d (words_came o) is
+  write_fault (inr (inl o)) is = elim o.ended [ inl e ↦ absurd (cc (sym is ∙ e.0)) | inr e ↦ e.1.rose ]
+  write_fault (inr (inr (inl o))) is = elim o.ended [ inl e ↦ absurd (cc (sym is ∙ e.0)) | inr e ↦ e.1.rose ]
+  write_fault (inr (inr (inr o))) is = elim o.from [
+    | inl u ↦ elim u.ended [ inl e ↦ absurd (cc (sym is ∙ e.0)) | inr e ↦ e.1.rose ]
+    | inr of ↦ came_cut _ result w d of.came is
   ]
 
   ended_told : (ends : Status) (line : List ℕ) → Ended ends line result w → w.faults < w.new_faults → result ≡ status.WriteFault
   ended_told ends line (inl e) more = let same = e.1.calm in absurd (omega arith)
   ended_told ends line (inr e) more = e.0
 
-  pub write_fault_told : Outcome words result s w → w.faults < w.new_faults → result ≡ status.WriteFault
-  write_fault_told (inl o) more = ended_told _ _ o.ended more
+  pub write_fault_told : Outcome words told result s w d → w.faults < w.new_faults → result ≡ status.WriteFault
+  write_fault_told (inl o) more = came_whole _ result w d (words_came o) more
   write_fault_told (inr (inl o)) more = ended_told _ _ o.ended more
   write_fault_told (inr (inr (inl o))) more = ended_told _ _ o.ended more
-  write_fault_told (inr (inr (inr o))) more = elim o.came [
-    | inl a ↦ (let same = a.wrote.calm in absurd (omega arith))
-    | inr other ↦ elim other [ inl a ↦ (let same = a.wrote.calm in absurd (omega arith)) | inr a ↦ a.status_is ]
-  ]
+  write_fault_told (inr (inr (inr o))) more = elim o.from [ inl u ↦ ended_told _ _ u.ended more | inr of ↦ came_whole _ result w d of.came more ]
 
-  pub complete : Outcome words result s w → words ≡ [] → ¬ Rose s.faults s.new_faults → ¬ Rose w.faults w.new_faults → IfSome s.before (λ bytes. IsAccepted (read_in bytes) → (result ≡ status.Done) ⊎ (result ≡ status.OutOfMemory))
-  complete (inl o) none quiet calm = absurd (o.some none)
-  complete (inr (inl o)) none quiet calm = absurd (quiet o.rose)
-  complete (inr (inr (inl o))) none quiet calm = elim o.ended [
+  pub complete : Outcome words told result s w d → IsTold (start_in words) told → ¬ Rose s.faults s.new_faults → ¬ d.rose → ¬ Rose w.faults w.new_faults →
+      IfSome s.before (λ bytes. IsAccepted (job_of (start_in words) (held_in told) bytes) → (result ≡ status.Done) ⊎ (result ≡ status.OutOfMemory))
+  complete (inl o) is_told quiet firm calm = on_words o.refused (λ st job. IsAccepted job → (result ≡ status.Done) ⊎ (result ≡ status.OutOfMemory)) (came_complete _ result w d (words_came o) firm calm)
+  complete (inr (inl o)) is_told quiet firm calm = absurd (quiet o.rose)
+  complete (inr (inr (inl o))) is_told quiet firm calm = elim o.ended [
     | inl e ↦ always s.before _ (λ all accepted. inr e.0)
     | inr e ↦ absurd (calm e.1.rose)
   ]
-  complete (inr (inr (inr o))) none quiet calm = elim o.came [
-    | inl a ↦ carried s.before _ _ o.left (λ all h accepted. inl (a.status_is ∙ accepted_read (script_of None o.bytes) (subst (λ b. IsAccepted (script_of None b)) (sym h.0) accepted)))
-    | inr other ↦ elim other [ inl a ↦ always s.before _ (λ all accepted. inr a.status_is) | inr a ↦ absurd (calm a.wrote.rose) ]
+  complete (inr (inr (inr o))) is_told quiet firm calm = elim o.from [
+    | inl u ↦ absurd (firm u.rose)
+    | inr of ↦ on_bytes o of (λ st job. IsAccepted job → (result ≡ status.Done) ⊎ (result ≡ status.OutOfMemory)) is_told (came_complete _ result w d of.came firm calm)
   ]
 
-  -- the line that a run ends with was written in part
-  line_part : (line : List ℕ) → WrotePart line w → (all : List ℕ) → MayPrint words all (Rose s.faults s.new_faults) line → TookPart words all (Rose s.faults s.new_faults) w.before w.after
-  line_part line e all may = (line, may, e.takes)
+  -- a line that a run ends with was written in part
+  line_part : (line : List ℕ) → IsSome (start_in words) → WrotePart line w → ((job : Result Job NotRun) → (Rose s.faults s.new_faults × (line ≡ read_line)) ⊎ MayEnd (start_in words) job d.rose line) →
+      IfSome s.before (λ bytes. TookPart (start_in words) (job_of (start_in words) (held_in told) bytes) (Rose s.faults s.new_faults) d.rose w.before w.after)
+  line_part line taken e may = on_all (λ st job. TookPart st job (Rose s.faults s.new_faults) d.rose w.before w.after) (λ job. (line, inr (taken, may job), e.takes))
 
-  pub part : Outcome words result s w → result ≡ status.WriteFault → IfSome s.before (λ bytes. TookPart words bytes (Rose s.faults s.new_faults) w.before w.after)
-  part (inl o) is = elim o.ended [
-    | inl e ↦ absurd (cc e.0)
-    | inr e ↦ always s.before _ (λ all. line_part words_line e.1 all (inl (sym (words_text words all o.some))))
+  after_no_text : (job : Result Job NotRun) (line : List ℕ) → line ≡ first_texts job 0 ++ line
+  after_no_text (Ok j) line = refl
+  after_no_text (Err reason) line = refl
+
+  pub part : Outcome words told result s w d → result ≡ status.WriteFault → IsTold (start_in words) told → IfSome s.before (λ bytes. TookPart (start_in words) (job_of (start_in words) (held_in told) bytes) (Rose s.faults s.new_faults) d.rose w.before w.after)
+  part (inl o) is is_told = elim o.ended [
+    | inl e ↦ absurd (cc (sym is ∙ e.0))
+    | inr e ↦ on_words o.refused (λ st job. TookPart st job (Rose s.faults s.new_faults) d.rose w.before w.after) (words_line, inl refl, e.1.takes)
   ]
-  part (inr (inl o)) is = elim o.ended [
-    | inl e ↦ absurd (cc e.0)
-    | inr e ↦ always s.before _ (λ all. line_part read_line e.1 all (inr (o.none, inl (o.rose, refl))))
+  part (inr (inl o)) is is_told = elim o.ended [
+    | inl e ↦ absurd (cc (sym is ∙ e.0))
+    | inr e ↦ line_part read_line o.taken e.1 (λ job. inl (o.rose, refl))
   ]
-  part (inr (inr (inl o))) is = elim o.ended [
-    | inl e ↦ absurd (cc e.0)
-    | inr e ↦ always s.before _ (λ all. line_part memory_line e.1 all (inr (o.none, inr (0, at_first (script_in all), no_texts (script_in all)))))
+  part (inr (inr (inl o))) is is_told = elim o.ended [
+    | inl e ↦ absurd (cc (sym is ∙ e.0))
+    | inr e ↦ line_part memory_line o.taken e.1 (λ job. inr (inl (0, at_first job, after_no_text job memory_line)))
   ]
-    where
-      no_texts : (read : Result PlainScript NotRun) → memory_line ≡ first_texts read 0 ++ memory_line
-      no_texts (Ok script) = refl
-      no_texts (Err fault) = refl
-  part (inr (inr (inr o))) is = elim o.came [
-    | inl a ↦ absurd (not_answer (admitted (script_of None o.bytes)) result _ a.status_is is write_no)
-    | inr other ↦ elim other [
-      | inl a ↦ absurd (cc a.status_is)
-      | inr a ↦ carried s.before _ _ o.left (λ all h. (a.text, subst (λ ws. MayPrint ws all (Rose s.faults s.new_faults) a.text) (sym o.none) (may a all h.0), a.wrote.takes))
+  part (inr (inr (inr o))) is is_told = elim o.from [
+    | inl u ↦ elim u.ended [
+      | inl e ↦ absurd (cc (sym is ∙ e.0))
+      | inr e ↦ line_part disk_line (taken_some o) e.1 (λ job. inr (inr (u.rose, inl (o.taken ∙ u.restart, refl))))
     ]
+    | inr of ↦ on_bytes o of (λ st job. TookPart st job (Rose s.faults s.new_faults) d.rose w.before w.after) is_told (taken_part _ (came_part _ result w d (Some o.start) of.came is))
   ]
     where
-      may : (a : Failed (admitted (script_of None o.bytes)) result w) (all : List ℕ) → o.bytes ≡ take most_read all → MayPrint [] all (Rose s.faults s.new_faults) a.text
-      may a all e = elim a.text_is [
-        | inl t ↦ inl (t ∙ ap (λ b. (answer_of (admitted (script_of None b))).text) e)
-        | inr t ↦ inr (refl, inr (t.0, subst (λ b. MayWant (admitted (script_of None b)) t.0) e t.1, t.2 ∙ ap (λ b. first_texts (admitted (script_of None b)) t.0 ++ memory_line) e))
-      ]
+      taken_part : {start : Start} (job : Result Job NotRun) → (text : List ℕ) × ((text ≡ (answer_of job).text) ⊎ MayEnd (Some start) job d.rose text) × TakesPrefix w.before text w.after → TookPart (Some start) job (Rose s.faults s.new_faults) d.rose w.before w.after
+      taken_part job (text, inl e, takes) = (text, inl e, takes)
+      taken_part job (text, inr end, takes) = (text, inr (refl, inr end), takes)
 
-  pub memory : Outcome words result s w → result ≡ status.OutOfMemory → IfSome s.before (λ bytes. TookBeforeMemory bytes w.before w.after)
-  memory (inl o) is = elim o.ended [ inl e ↦ absurd (cc e.0) | inr e ↦ absurd (cc e.0) ]
-  memory (inr (inl o)) is = elim o.ended [ inl e ↦ absurd (cc e.0) | inr e ↦ absurd (cc e.0) ]
-  memory (inr (inr (inl o))) is = elim o.ended [
-    | inl e ↦ always s.before _ (λ all. (0, at_first (script_in all), subst (λ t. Takes w.before t w.after) (no_texts (script_in all)) e.1.takes))
-    | inr e ↦ absurd (cc e.0)
+  pub memory : Outcome words told result s w d → result ≡ status.OutOfMemory → IsTold (start_in words) told → IfSome s.before (λ bytes. TookBeforeMemory (job_of (start_in words) (held_in told) bytes) w.before w.after)
+  memory (inl o) is is_told = on_words o.refused (λ st job. TookBeforeMemory job w.before w.after) (came_starved _ result w d (words_came o) is)
+  memory (inr (inl o)) is is_told = elim o.ended [ inl e ↦ absurd (cc (sym is ∙ e.0)) | inr e ↦ absurd (cc (sym is ∙ e.0)) ]
+  memory (inr (inr (inl o))) is is_told = elim o.ended [
+    | inl e ↦ on_all (λ st job. TookBeforeMemory job w.before w.after) (λ job. (0, at_first job, subst (λ t. Takes w.before t w.after) (after_no_text job memory_line) e.1.takes))
+    | inr e ↦ absurd (cc (sym is ∙ e.0))
   ]
-    where
-      no_texts : (read : Result PlainScript NotRun) → memory_line ≡ first_texts read 0 ++ memory_line
-      no_texts (Ok script) = refl
-      no_texts (Err fault) = refl
-  memory (inr (inr (inr o))) is = elim o.came [
-    | inl a ↦ absurd (not_answer (admitted (script_of None o.bytes)) result _ a.status_is is memory_no)
-    | inr other ↦ elim other [
-      | inl a ↦ carried s.before _ _ o.left (λ all h. (a.commands, subst (λ b. MayWant (admitted (script_of None b)) a.commands) h.0 a.wants, subst (λ b. Takes w.before (first_texts (admitted (script_of None b)) a.commands ++ memory_line) w.after) h.0 a.wrote.takes))
-      | inr a ↦ absurd (cc a.status_is)
+  memory (inr (inr (inr o))) is is_told = elim o.from [
+    | inl u ↦ elim u.ended [ inl e ↦ absurd (cc (sym is ∙ e.0)) | inr e ↦ absurd (cc (sym is ∙ e.0)) ]
+    | inr of ↦ on_bytes o of (λ st job. TookBeforeMemory job w.before w.after) is_told (came_starved _ result w d of.came is)
+  ]
+
+  pub read : Outcome words told result s w d → IsSome (start_in words) → ¬ Rose s.faults s.new_faults → IfSome s.before (λ bytes. s.after ≡ Some (drop most_read bytes))
+  read (inl o) some quiet = absurd (no_start o.refused some)
+  read (inr (inl o)) some quiet = absurd (quiet o.rose)
+  read (inr (inr (inl o))) some quiet = o.left
+  read (inr (inr (inr o))) some quiet = carried s.before _ _ o.left (λ all h. h.1)
+
+  -- the runs that leave the areas
+  pub untouched : Outcome words told result s w d → KeepsOff result → d.untouched
+  untouched (inl o) off = came_untouched (Err reasons.Words) result w d (words_came o) off
+  untouched (inr (inl o)) off = o.untouched
+  untouched (inr (inr (inl o))) off = o.untouched
+  untouched (inr (inr (inr o))) off = elim o.from [ inl u ↦ u.untouched | inr of ↦ came_untouched _ result w d of.came off ]
+
+  Ends : Option Start → Result Job NotRun → Type 0
+  Ends st job = (k : ℕ) × EndsAfter st job k result (Rose s.faults s.new_faults) d.rose w.before w.after × (LastsAt job k d ⊎ (BeginsAt job k d ⊎ ((k ≡ 0) × d.untouched)))
+
+  more : {st : Option Start} {job : Result Job NotRun} → (k : ℕ) × EndsAfter st job k result (Rose s.faults s.new_faults) d.rose w.before w.after × (LastsAt job k d ⊎ BeginsAt job k d) → Ends st job
+  unfolding Ends
+  more (k, at, inl lasts) = (k, at, inl lasts)
+  more (k, at, inr begins) = (k, at, inr (inl begins))
+
+  -- where a run ended, and what the disk went through
+  pub ends : Outcome words told result s w d → IsTold (start_in words) told →
+      IfSome s.before (λ bytes. let job = job_of (start_in words) (held_in told) bytes in (k : ℕ) × EndsAfter (start_in words) job k result (Rose s.faults s.new_faults) d.rose w.before w.after × (LastsAt job k d ⊎ (BeginsAt job k d ⊎ ((k ≡ 0) × d.untouched))))
+  unfolding Ends
+  ends (inl o) is_told = on_words o.refused Ends (more (came_ends _ result w d None (Rose s.faults s.new_faults) (words_came o)))
+  ends (inr (inl o)) is_told = elim o.ended [
+    | inl e ↦ on_all Ends (λ job. (0, inl (refl, inl e.0, o.rose, between w.before w.after 0 read_line (omega arith) e.1.takes), inr (inr (refl, o.untouched))))
+    | inr e ↦ on_all Ends (λ job. (0, inl (refl, inr e.0, o.rose, cut_line w.before w.after read_line e.1.takes), inr (inr (refl, o.untouched))))
+  ]
+  ends (inr (inr (inl o))) is_told = elim o.ended [
+    | inl e ↦ on_all Ends (λ job. (0, inr (inr (inr (inr (inl (inl e.0, at_first job, line_alone w.before w.after job memory_line (between w.before w.after 0 memory_line (omega arith) e.1.takes)))))), inr (inr (refl, o.untouched))))
+    | inr e ↦ on_all Ends (λ job. (0, inr (inr (inr (inr (inl (inr e.0, at_first job, line_alone w.before w.after job memory_line (cut_line w.before w.after memory_line e.1.takes)))))), inr (inr (refl, o.untouched))))
+  ]
+  ends (inr (inr (inr o))) is_told = elim o.from [
+    | inl u ↦ elim u.ended [
+      | inl e ↦ on_all Ends (λ job. (0, inr (inl (refl, o.taken ∙ u.restart, inl e.0, u.rose, between w.before w.after 0 disk_line (omega arith) e.1.takes)), inr (inr (refl, u.untouched))))
+      | inr e ↦ on_all Ends (λ job. (0, inr (inl (refl, o.taken ∙ u.restart, inr e.0, u.rose, cut_line w.before w.after disk_line e.1.takes)), inr (inr (refl, u.untouched))))
     ]
+    | inr of ↦ on_bytes o of Ends is_told (more (came_ends _ result w d (Some o.start) (Rose s.faults s.new_faults) of.came))
   ]
-
-  pub read : Outcome words result s w → words ≡ [] → ¬ Rose s.faults s.new_faults → IfSome s.before (λ bytes. s.after ≡ Some (drop most_read bytes))
-  read (inl o) none quiet = absurd (o.some none)
-  read (inr (inl o)) none quiet = absurd (quiet o.rose)
-  read (inr (inr (inl o))) none quiet = o.left
-  read (inr (inr (inr o))) none quiet = carried s.before _ _ o.left (λ all h. h.1)

@@ -1,23 +1,26 @@
 -- The commands of a run, one after the other.
-use Rattle.std.proofs.lemmas.Bool.{and_parts}
+use Rattle.std.proofs.lemmas.Bool.{and_parts, cases_Bool, cases_lt, lt-ltb, le-ltb}
 use Rattle.std.specs.List.{list_all}
 use Rattle.std.proofs.lemmas.List.Elements.{All-cons, All-nil}
-use Rattle.std.proofs.Common.{◌≡◌, ℕ, ◌≤◌, is_none, Bool, true, false, if◌then◌else◌, All, zero, suc, ◌+◌, ◌<◌, ◌++◌, List, [], ◌∷◌, Option, Some, None, Result, Ok, Err, IfSome, length, get_or, take, drop, inl, inr, refl, sym, ap, subst, ◌∙◌, arith, append_assoc, append-nil, length-append}
-use Rattle.std.proofs.Math.Seq.{take-suc}
+use Rattle.std.proofs.Common.{◌≡◌, ◌≢◌, ℕ, ◌≤◌, is_none, Bool, true, false, if◌then◌else◌, All, zero, suc, ◌+◌, ◌-◌, ◌<◌, ◌++◌, List, [], ◌∷◌, Option, Some, None, Result, Ok, Err, IfSome, length, get_or, take, drop, inl, inr, ◌⊎◌, refl, sym, ap, subst, ◌∙◌, arith, append_assoc, append-nil, length-append}
+use Rattle.std.specs.Prelude.{nat_lt, cond}
+use Rattle.std.proofs.Math.Seq.{take-append-add, take-length, take-suc}
+use Rattle.std.proofs.lemmas.List.{length-take-le, take-append-le}
 use Rattle.script_lang.proofs.Scripts.{script_fits, script_in_limits}
 use Rattle.mesh_model.specs.declared.language.script.Command.{Command}
+use Rattle.mesh_model.specs.declared.language.script.Command.TheVariants as commands
 use Rattle.mesh_model.specs.declared.run.stops.Refusal as stops
 use Rattle.mesh_model.specs.Language.Grammar.{script_of, Fault}
 use Rattle.mesh_model.specs.Run.StopTexts.{stop_line}
 use Rattle.mesh_model.specs.Run.Stops.{refusal}
 use Rattle.mesh_model.specs.Fields.Valid.{ValidMesh}
-use Rattle.mesh_model.proofs.FieldLemmas.Start.{start_mesh_valid}
 use Rattle.mesh_model.specs.declared.language.script.Declared.{Declared}
 use Rattle.mesh_model.specs.declared.language.script.Line.{Line}
+use Rattle.outside_io.specs.Areas.{Areas}
 use Rattle.amr_engine.specs.declared.cause.StoppedBy.{StoppedBy}
 use Rattle.amr_engine.specs.declared.cause.StoppedBy.TheVariants as by
+use Rattle.amr_engine.specs.Saving.{CountsFault, HasSaved, StaysWhole}
 use Rattle.amr_engine.specs.Stopping.{Leaves, MayStop, Written, Wrote, WrotePart}
-use Rattle.amr_report.proofs.Printed.{broke_within}
 use Rattle.amr_engine.specs.Built.{IsBuiltLine, is_built, is_built_command}
 use Rattle.mesh_model.specs.Language.Commands.{InLimits, IsLineOf, PlainScript}
 use Rattle.mesh_model.specs.Fields.Plain.{Mesh}
@@ -27,10 +30,13 @@ use Rattle.amr_program.specs.declared.status.Status.{Status}
 use Rattle.amr_program.specs.declared.status.Status.TheVariants as status
 use Rattle.amr_program.specs.declared.not_run.NotRun.{NotRun}
 use Rattle.amr_program.specs.declared.not_run.NotRun.TheVariants as reasons
-use Rattle.amr_program.specs.Answer.{AlongRun, MayWant, admitted, answer_of, done_in, ending, first_texts, most_read, read_in, script_in, status_of, stop_in}
-use Rattle.amr_program.specs.Lines.{memory_line, not_run_line}
-use Rattle.amr_program.specs.Outcome.{Came, Ended, RunStops, Stopped}
-use Rattle.mesh_model.specs.Run.Runs.{AtEachCommand, declared_in, done, first_mesh, mesh_after, mesh_after_all, stop, text_of, texts}
+use Rattle.amr_program.specs.Answer.{AlongRun, Job, MayFail, MayWant, NeedsAfter, answer_of, count_in, done_in, ending, first_texts, job_from, status_of, stop_in}
+use Rattle.amr_program.specs.Lasting.{DiskRun, HasLine, LeavesLastTwo, IsCut, TookBetween, disk_run, reach}
+use Rattle.amr_program.specs.Lines.{disk_line, memory_line, not_run_line}
+use Rattle.amr_program.specs.Outcome.{BeginsAt, Broken, BrokeOff, Came, Cut, Ended, LastsAt, RefusedWith, RunStops, Starved, Stopped, WereBegun, WereDone}
+use Rattle.amr_engine.proofs.Saved.{nothing_saved, saves_mesh, stays_whole}
+use Rattle.amr_program.proofs.Keeping.{more_saved, more_stay, one_begun}
+use Rattle.mesh_model.specs.Run.Runs.{AtEachCommand, TheDisk, TheMemory, TheSink, checkpoints, declared_in, done, first_mesh, mesh_after, mesh_after_all, needs, saved_by, stop, text_of, texts}
 
 -- ---- commands after others
 
@@ -109,163 +115,207 @@ more_taken m now lines i d a b c h so_far before here =
     ∙ ap (texts m) (sym (ap (λ k. take k lines) next ∙ take-suc lines i d h)) in
     subst (λ t. Takes a t c) texts_next (takes_more a b c (texts m (take i lines)) (text_of now line.command) before here)
 
--- the command at which a run stands is refused
-stopped_here : (m now : Mesh) (lines : List Line) (i number : ℕ) (d : Line) (a b c : Option (List ℕ)) (f g h : ℕ) → i < length lines → number ≡ (get_or lines i d).number → Progress m lines i now → Takes a (texts m (take i lines)) b → g ≡ f →
-    (reason : stops.Refusal) → refusal now (get_or lines i d).command ≡ Some reason → c ≡ b → h ≡ g →
-    (stop m lines ≡ Some (record { line = number; why = reason })) × Wrote (texts m (done m lines)) (record { before = a; after = c; faults = f; new_faults = h })
-stopped_here m now lines i number d a b c f g h l number_is so_far before calm reason some same quiet =
-    let line = get_or lines i d in
-    let here = stopped_by now line (drop (i + 1) lines) reason some in
-    let all : done m lines ≡ take i lines = so_far.done_so_far ∙ ap (λ ls. take i lines ++ done now ls) (left_from lines i d l) ∙ ap (λ ls. take i lines ++ ls) here.0 ∙ append-nil (take i lines) in (
-      so_far.stops_later ∙ ap (stop now) (left_from lines i d l) ∙ here.1 ∙ ap (λ n. Some (record { line = n; why = reason })) (sym number_is),
-      record { takes = subst (λ x. Takes a (texts m (done m lines)) x) (sym same) (subst (λ t. Takes a t b) (ap (texts m) (sym all)) before); calm = quiet ∙ calm },
-    )
+-- ---- pieces of texts
 
--- a command was stopped
-pub run_stops : (stopper : StoppedBy) (m now : Mesh) (lines : List Line) (i number : ℕ) (d : Line) (a b c : Option (List ℕ)) (f g h : ℕ) → i < length lines → number ≡ (get_or lines i d).number → Progress m lines i now → Takes a (texts m (take i lines)) b → g ≡ f →
-    MayStop stopper now (get_or lines i d).command → Leaves stopper (text_of now (get_or lines i d).command) (record { before = b; after = c; faults = g; new_faults = h }) → RunStops stopper number m lines (record { before = a; after = c; faults = f; new_faults = h })
-run_stops (by.Mesh reason) m now lines i number d a b c f g h l number_is so_far before calm may leaves = stopped_here m now lines i number d a b c f g h l number_is so_far before calm reason may leaves.taken leaves.calm
-run_stops by.Sink m now lines i number d a b c f g h l number_is so_far before calm may leaves =
-    let line = get_or lines i d in
-    let rest = drop (i + 1) lines in
-    let after = mesh_after now line.command in
-    let all : done m lines ≡ take i lines ++ line ∷ done after rest = so_far.done_so_far ∙ ap (λ ls. take i lines ++ done now ls) (left_from lines i d l) ∙ ap (λ ls. take i lines ++ ls) (done_by now line rest may.1).0 in
-    let whole : texts m (done m lines) ≡ (texts m (take i lines) ++ text_of now line.command) ++ texts after (done after rest) =
-    ap (texts m) all ∙ texts_append m (take i lines) (line ∷ done after rest) ∙ ap (λ x. texts m (take i lines) ++ texts x (line ∷ done after rest)) (sym so_far.mesh) ∙ sym (append_assoc (texts m (take i lines)) (text_of now line.command) (texts after (done after rest))) in
-    let part = broke_within a b c (texts m (take i lines)) (text_of now line.command) (texts after (done after rest)) (texts m (done m lines)) f g h (before, calm) (leaves.takes, leaves.rose) whole in
-    record { takes = part.0; rose = part.1 }
-run_stops by.Memory m now lines i number d a b c f g h l number_is so_far before calm may leaves =
-    let taken : length (take i lines) ≡ i = taken_length lines i (omega (arith, l)) in
-    let firsts : take i (done m lines) ≡ take i lines = ap (take i) so_far.done_so_far ∙ take_first (take i lines) (done now (drop i lines)) i taken in
-    let many = ap length so_far.done_so_far ∙ length-append (take i lines) (done now (drop i lines)) in (
-      i,
-      record { line = get_or lines i d; rest = drop (i + 1) lines; reached = omega (arith, taken, many); next = left_from lines i d l; wants = may },
-      record { takes = subst (λ t. Takes a t c) (ap (texts m) (sym firsts)) (subst (λ x. Takes a (texts m (take i lines)) x) (sym leaves.taken) before); calm = leaves.calm ∙ calm },
-    )
-  where
-    taken_length : (lines : List Line) (i : ℕ) → i ≤ length lines → length (take i lines) ≡ i
-    taken_length lines zero k = refl
-    taken_length [] (suc i) k = absurd (omega arith)
-    taken_length (line ∷ lines) (suc i) k = ap suc (taken_length lines i (omega arith))
+-- a first part of a text after another
+pub cut_within : (a b c : Option (List ℕ)) (xs ys zs whole : List ℕ) → whole ≡ xs ++ ys ++ zs → Takes a xs b → TakesPrefix b ys c → TookBetween (length xs) (length (xs ++ ys)) whole a c
+cut_within None b c xs ys zs whole is takes part = tt
+cut_within (Some bytes) b c xs ys zs whole is takes part =
+    let here = subst (λ o. IfSome o (λ so_far. (n : ℕ) × (n ≤ length ys) × (c ≡ Some (so_far ++ take n ys)))) takes part in
+    let n = here.0 in
+    let taken : take (length xs + n) whole ≡ xs ++ take n ys = ap (take (length xs + n)) (is ∙ append_assoc xs ys zs) ∙ take-append-add xs (ys ++ zs) n ∙ ap (λ t. xs ++ t) (take-append-le n ys zs here.1) in
+    (length xs + n, omega arith, (let l = here.1 in let long = length-append xs ys in omega arith), here.2 ∙ ap Some (append_assoc bytes xs (take n ys) ∙ ap (λ t. bytes ++ t) (sym taken)))
 
-    take_first : (xs ys : List Line) (n : ℕ) → length xs ≡ n → take n (xs ++ ys) ≡ xs
-    take_first [] ys n e = subst (λ k. take k ys ≡ []) e refl
-    take_first (x ∷ xs) ys zero e = absurd (omega (arith, e))
-    take_first (x ∷ xs) ys (suc n) e = ap (λ ls. x ∷ ls) (take_first xs ys n (omega (arith, e)))
+-- a first part of a text from where nothing was taken
+pub cut_line : (a c : Option (List ℕ)) (line : List ℕ) → TakesPrefix a line c → TookBetween 0 (length line) line a c
+cut_line None c line part = tt
+cut_line (Some bytes) c line part = (part.0, omega arith, part.1, part.2)
 
--- ---- what came of a script
+pub wider : (a c : Option (List ℕ)) (least most more : ℕ) (text whole : List ℕ) → ((n : ℕ) → n ≤ most → take n whole ≡ take n text) → most ≤ more → TookBetween least most text a c → TookBetween least more whole a c
+wider None c least most more text whole same le took = tt
+wider (Some bytes) c least most more text whole same le took = (took.0, took.1, (let l = took.2 in omega arith), took.3 ∙ ap (λ t. Some (bytes ++ t)) (sym (same took.0 took.2)))
 
--- memory was refused after the texts of the first commands
-pub starved_after : (read : Result PlainScript NotRun) (k : ℕ) → MayWant read k → (result : Status) (a b c : Option (List ℕ)) (f g h : ℕ) → Takes a (first_texts read k) b → g ≡ f → Ended status.OutOfMemory memory_line result (record { before = b; after = c; faults = g; new_faults = h }) →
-    Came read result (record { before = a; after = c; faults = f; new_faults = h })
-starved_after read k wants result a b c f g h before calm (inl e) = inr (inl (record { status_is = e.0; commands = k; wants = wants; wrote = record { takes = takes_more a b c (first_texts read k) memory_line before e.1.takes; calm = e.1.calm ∙ calm } }))
-starved_after read k wants result a b c f g h before calm (inr e) =
-    let part = broke_within a b c (first_texts read k) memory_line [] (first_texts read k ++ memory_line) f g h (before, calm) (e.1.takes, e.1.rose) (sym (append-nil (first_texts read k ++ memory_line))) in
-    inr (inr (record { status_is = e.0; text = first_texts read k ++ memory_line; text_is = inr (k, wants, refl); wrote = record { takes = part.0; rose = part.1 } }))
+-- all that a sink took between is a first part
+pub took_part : (a c : Option (List ℕ)) (least most : ℕ) (text : List ℕ) → most ≤ length text → TookBetween least most text a c → TakesPrefix a text c
+took_part None c least most text le took = tt
+took_part (Some bytes) c least most text le took = (took.0, (let l = took.2 in omega arith), took.3)
 
-nothing_taken : (a : Option (List ℕ)) → Takes a [] a
-nothing_taken None = tt
-nothing_taken (Some xs) = ap Some (sym (append-nil xs))
+-- ---- checkpoints
 
-no_texts : (read : Result PlainScript NotRun) → first_texts read 0 ≡ []
-no_texts (Ok script) = refl
-no_texts (Err fault) = refl
+pub checkpoints_append : (m : Mesh) (xs ys : List Line) → checkpoints m (xs ++ ys) ≡ checkpoints m xs ++ checkpoints (mesh_after_all m xs) ys
+checkpoints_append m [] ys = refl
+checkpoints_append m (line ∷ xs) ys = ap (λ t. saved_by m line.command ++ t) (checkpoints_append (mesh_after m line.command) xs ys) ∙ sym (append_assoc (saved_by m line.command) (checkpoints (mesh_after m line.command) xs) (checkpoints (mesh_after_all (mesh_after m line.command) xs) ys))
 
--- memory may be wanting before the first command
-pub at_first : (read : Result PlainScript NotRun) → MayWant read 0
-at_first (Ok script) = inl refl
-at_first (Err fault) = refl
+-- those among the first commands and one more
+pub checkpoints_next : (m now : Mesh) (xs : List Line) (line : Line) → now ≡ mesh_after_all m xs → checkpoints m (xs ++ line ∷ []) ≡ checkpoints m xs ++ saved_by now line.command
+checkpoints_next m now xs line is = checkpoints_append m xs (line ∷ []) ∙ ap (λ t. checkpoints m xs ++ t) (append-nil (saved_by (mesh_after_all m xs) line.command) ∙ ap (λ n. saved_by n line.command) (sym is))
 
--- memory was refused before the first command
-pub starved_first : (read : Result PlainScript NotRun) (result : Status) (w : Written) → Ended status.OutOfMemory memory_line result w → Came read result w
-starved_first read result w e = starved_after read 0 (at_first read) result w.before w.before w.after w.faults w.faults w.new_faults (subst (λ t. Takes w.before t w.before) (sym (no_texts read)) (nothing_taken w.before)) refl e
+-- a command that the mesh refuses does not need the disk
+unneeded : (m : Mesh) (command : Command) (why : stops.Refusal) → refusal m command ≡ Some why → needs command ≢ TheDisk
+unfolding refusal
+unneeded m commands.Checkpoint why some = absurd (cc some)
+unneeded m other why some = λ e. cc e
 
--- the script is not run
-pub refused_came : (reason : NotRun) (result : Status) (w : Written) → Ended status.Script (not_run_line reason) result w → Came (Err reason) result w
-refused_came reason result w (inl e) = inl (record { status_is = e.0; wrote = e.1 })
-refused_came reason result w (inr e) = inr (inr (record { status_is = e.0; text = not_run_line reason; text_is = inl refl; wrote = e.1 }))
+-- and the mesh does not refuse what needs it
+not_refused : (m : Mesh) (command : Command) → needs command ≡ TheDisk → refusal m command ≡ None
+unfolding refusal
+not_refused m commands.Checkpoint is = refl
+not_refused m other is = absurd (cc is)
 
--- the line says why
-pub refused_said : (reason : NotRun) (line : List ℕ) (result : Status) (w : Written) → line ≡ not_run_line reason → Ended status.Script line result w → Came (Err reason) result w
-refused_said reason line result w is e = refused_came reason result w (subst (λ t. Ended status.Script t result w) is e)
+-- ---- a run by its commands
 
--- how the run of a script's lines from its start mesh stopped
-pub at_start : (s : PlainScript) (stopper : StoppedBy) (line : ℕ) (m : Mesh) (lines : List Line) (w : Written) → m ≡ first_mesh s → lines ≡ s.lines → RunStops stopper line m lines w → RunStops stopper line (first_mesh s) s.lines w
-at_start s stopper line m lines w m_is lines_are stops = subst (λ ls. RunStops stopper line (first_mesh s) ls w) lines_are (subst (λ x. RunStops stopper line x lines w) m_is stops)
+module _ {D : Type 0} (holds : D → Option Areas) (may_leave : D → Areas → Type 0) (moment : D → ℕ) (left_since : D → ℕ → Areas → Type 0) (faults : D → ℕ) where
+  -- the meshes of the first i commands were saved
+  pub record Kept (m : Mesh) (lines : List Line) (i : ℕ) (old now : D) : Type 0 where
+    pub calm : faults now ≡ faults old
+    pub stays : StaysWhole holds may_leave moment left_since (checkpoints m (take i lines)) old now
+    pub has : HasSaved holds may_leave (checkpoints m (take i lines)) old now
 
--- a run in which no command was refused
-pub came_done : (s : PlainScript) (w : Written) → stop_in s ≡ None → Wrote (texts (first_mesh s) (done_in s)) w → Came (Ok s) status.Done w
-came_done s w none wrote = inl (record {
-  status_is = sym (ap (λ o. (ending s.declared.names o).status) none);
-  wrote = record {
-    takes = subst (λ o. Takes w.before (texts (first_mesh s) (done_in s) ++ (ending s.declared.names o).text) w.after) (sym none) (subst (λ t. Takes w.before t w.after) (sym (append-nil (texts (first_mesh s) (done_in s)))) wrote.takes);
-    calm = wrote.calm;
-  };
-})
+  abbrev run_of : D → D → DiskRun
+  run_of = disk_run holds may_leave moment left_since faults
 
-pub came_done_from : (s : PlainScript) (m : Mesh) (lines : List Line) (w : Written) → m ≡ first_mesh s → lines ≡ s.lines → stop m lines ≡ None → Wrote (texts m (done m lines)) w → Came (Ok s) status.Done w
-came_done_from s m lines w m_is lines_are none wrote =
-    came_done s w
-    (subst (λ ls. stop (first_mesh s) ls ≡ None) lines_are (subst (λ x. stop x lines ≡ None) m_is none))
-    (subst (λ ls. Wrote (texts (first_mesh s) (done (first_mesh s) ls)) w) lines_are (subst (λ x. Wrote (texts x (done x lines)) w) m_is wrote))
+  pub kept_first : ((disk : D) (c : Areas) → left_since disk (moment disk) c → may_leave disk c) → (m : Mesh) (lines : List Line) (disk : D) → Kept m lines 0 disk disk
+  kept_first only_now m lines disk = record { calm = refl; stays = stays_whole holds may_leave moment left_since only_now disk; has = nothing_saved holds may_leave moment left_since only_now disk }
 
--- the sink failed while the commands printed
-pub came_failed : (s : PlainScript) (w : Written) → WrotePart (texts (first_mesh s) (done_in s)) w → Came (Ok s) status.WriteFault w
-came_failed s w part =
-    let broke = broke_within w.before w.before w.after [] (texts (first_mesh s) (done_in s)) (ending s.declared.names (stop_in s)).text (answer_of (Ok s)).text w.faults w.faults w.new_faults (nothing_taken w.before, refl) (part.takes, part.rose) refl in
-    inr (inr (record { status_is = refl; text = (answer_of (Ok s)).text; text_is = inl refl; wrote = record { takes = broke.0; rose = broke.1 } }))
+  kept_done : (m : Mesh) (lines first : List Line) (i : ℕ) (old now : D) → take i lines ≡ first → Kept m lines i old now → (k : ℕ) → take k (done m lines) ≡ first → WereDone k m lines (run_of old now)
+  kept_done m lines first i old now is kept k same =
+      let e : checkpoints m (take i lines) ≡ checkpoints m (take k (done m lines)) = ap (checkpoints m) (is ∙ sym same) in
+      record { calm = kept.calm; saved = (subst (λ ms. StaysWhole holds may_leave moment left_since ms old now) e kept.stays, subst (λ ms. HasSaved holds may_leave ms old now) e kept.has) }
 
--- a command was refused, and its line ended the run
-pub came_refused : (s : PlainScript) (line : ℕ) (reason : stops.Refusal) (result : Status) (a b c : Option (List ℕ)) (f g h : ℕ) → stop_in s ≡ Some (record { line = line; why = reason }) →
-    Wrote (texts (first_mesh s) (done_in s)) (record { before = a; after = b; faults = f; new_faults = g }) → Ended (status_of reason) (stop_line s.declared.names line reason) result (record { before = b; after = c; faults = g; new_faults = h }) →
-    Came (Ok s) result (record { before = a; after = c; faults = f; new_faults = h })
-came_refused s line reason result a b c f g h some wrote (inl e) = inl (record {
-  status_is = e.0 ∙ sym (ap (λ o. (ending s.declared.names o).status) some);
-  wrote = record {
-    takes = subst (λ o. Takes a (texts (first_mesh s) (done_in s) ++ (ending s.declared.names o).text) c) (sym some) (takes_more a b c (texts (first_mesh s) (done_in s)) (stop_line s.declared.names line reason) wrote.takes e.1.takes);
-    calm = e.1.calm ∙ wrote.calm;
-  };
-})
-came_refused s line reason result a b c f g h some wrote (inr e) =
-    let whole = ap (λ o. texts (first_mesh s) (done_in s) ++ (ending s.declared.names o).text) some ∙ sym (append-nil (texts (first_mesh s) (done_in s) ++ stop_line s.declared.names line reason)) in
-    let broke = broke_within a b c (texts (first_mesh s) (done_in s)) (stop_line s.declared.names line reason) [] (answer_of (Ok s)).text f g h (wrote.takes, wrote.calm) (e.1.takes, e.1.rose) whole in
-    inr (inr (record { status_is = e.0; text = (answer_of (Ok s)).text; text_is = inl refl; wrote = record { takes = broke.0; rose = broke.1 } }))
+  module _ (m now : Mesh) (lines : List Line) (i : ℕ) (d : Line) (old mid new : D) (here : i < length lines) (so_far : Progress m lines i now) (kept : Kept m lines i old mid) where
+    the_line : Line
+    the_line = get_or lines i d
 
--- how a run that stopped ends
-pub came_stopped : (s : PlainScript) (stopper : StoppedBy) (line : ℕ) (result : Status) (a b c : Option (List ℕ)) (f g h : ℕ) →
-    RunStops stopper line (first_mesh s) s.lines (record { before = a; after = b; faults = f; new_faults = g }) → Stopped stopper line s.declared.names result (record { before = b; after = c; faults = g; new_faults = h }) →
-    Came (Ok s) result (record { before = a; after = c; faults = f; new_faults = h })
-came_stopped s (by.Mesh why) line result a b c f g h stops ends = came_refused s line why result a b c f g h stops.0 stops.1 ends
-came_stopped s by.Memory line result a b c f g h stops ends = starved_after (Ok s) stops.0 (inr stops.1) result a b c f g h stops.2.takes stops.2.calm ends
-came_stopped s by.Sink line result a b c f g h stops ends =
-    subst (λ r. Came (Ok s) r (record { before = a; after = c; faults = f; new_faults = h })) (sym ends.0)
-    (came_failed s (record { before = a; after = c; faults = f; new_faults = h }) (record { takes = subst (λ x. TakesPrefix a (texts (first_mesh s) (done_in s)) x) (sym ends.1.taken) stops.takes; rose = subst (λ n. Rose f n) (sym ends.1.calm) stops.rose }))
+    one_more : take (i + 1) lines ≡ take i lines ++ the_line ∷ []
+    unfolding the_line
+    one_more = let e : i + 1 ≡ suc i = omega arith in ap (λ k. take k lines) e ∙ take-suc lines i d here
 
--- ---- what a built script is
+    next_meshes : checkpoints m (take i lines ++ the_line ∷ []) ≡ checkpoints m (take i lines) ++ saved_by now the_line.command
+    next_meshes = checkpoints_next m now (take i lines) the_line so_far.mesh
 
-pub built_lines : (s : PlainScript) → is_built s 1 1 ≡ true → All IsBuiltLine s.lines
-unfolding is_built
-built_lines s h = each s.lines (and_parts true _ h).1
-  where
-    each : (lines : List Line) → list_all (λ line. is_built_command line.command) lines ≡ true → All IsBuiltLine lines
-    each [] all = All-nil IsBuiltLine
-    each (line ∷ lines) all = All-cons IsBuiltLine line lines (and_parts _ _ all).0 (each lines (and_parts _ _ all).1)
+    -- one command more is done
+    pub kept_on : StaysWhole holds may_leave moment left_since (saved_by now (get_or lines i d).command) mid new → HasSaved holds may_leave (saved_by now (get_or lines i d).command) mid new → faults new ≡ faults mid
+        → Kept m lines (i + 1) old new
+    unfolding the_line
+    kept_on stays has calm =
+        let e : checkpoints m (take i lines) ++ saved_by now the_line.command ≡ checkpoints m (take (i + 1) lines) = sym next_meshes ∙ ap (checkpoints m) (sym one_more) in
+        record {
+          calm = calm ∙ kept.calm;
+          stays = subst (λ ms. StaysWhole holds may_leave moment left_since ms old new) e (more_stay holds may_leave moment left_since (checkpoints m (take i lines)) (saved_by now the_line.command) old mid new kept.stays kept.has stays);
+          has = subst (λ ms. HasSaved holds may_leave ms old new) e (more_saved holds may_leave moment left_since (checkpoints m (take i lines)) (saved_by now the_line.command) old mid new kept.stays kept.has stays has);
+        }
 
--- ---- laws along a run
+    kept_same : new ≡ mid → Kept m lines i old new
+    kept_same same = subst (Kept m lines i old) (sym same) kept
 
-first_is : (s : PlainScript) → declared_in (first_mesh s) ≡ s.declared
-first_is s = refl
+    size_of_first : length (take i lines) ≡ i
+    size_of_first = length-take-le i lines (omega (arith, here))
 
--- what holds at each command of a run from a valid mesh holds along a script that is run
-module _ (R : Mesh → Command → Mesh → Type 0) (law : (m : Mesh) (lines : List Line) → ValidMesh m → All (IsLineOf (declared_in m)) lines → AtEachCommand R m (done m lines)) where
-  kept_by : (built : Bool) (s : PlainScript) → InLimits s.declared → All (IsLineOf s.declared) s.lines → AlongRun R (if built then Ok s else Err reasons.NotBuilt)
-  kept_by true s limits lines = law (first_mesh s) s.lines (start_mesh_valid s.declared.shape s.declared.names limits.shape limits.names.few) lines
-  kept_by false s limits lines = tt
+    firsts : take i (done m lines) ≡ take i lines
+    firsts = ap (take i) so_far.done_so_far ∙ subst (λ n. take n (take i lines ++ done now (drop i lines)) ≡ take i lines) size_of_first (take-append-le (length (take i lines)) (take i lines) (done now (drop i lines)) (omega arith) ∙ take-length (take i lines))
 
-  kept : (bytes : List ℕ) → (read : Result PlainScript Fault) → script_of None bytes ≡ read → AlongRun R (admitted read)
-  kept bytes (Ok s) e = kept_by (is_built s 1 1) s (script_in_limits None bytes s tt e) (script_fits None bytes s e)
-  kept bytes (Err fault) e = tt
+    reached_here : i ≤ length (done m lines)
+    reached_here = let long = ap length so_far.done_so_far ∙ length-append (take i lines) (done now (drop i lines)) in let first = size_of_first in omega arith
 
-  pub along_run : (left : Option (List ℕ)) → IfSome left (λ bytes. AlongRun R (script_in bytes))
-  along_run None = tt
-  along_run (Some bytes) = kept (take most_read bytes) (read_in bytes) refl
+    -- the command is not refused by the mesh: it and the first are done
+    module _ (free : refusal now (get_or lines i d).command ≡ None) where
+      rest_done : List Line
+      rest_done = done (mesh_after now the_line.command) (drop (i + 1) lines)
+
+      all_of_it : done m lines ≡ (take i lines ++ the_line ∷ []) ++ rest_done
+      unfolding the_line rest_done
+      all_of_it = so_far.done_so_far ∙ ap (λ ls. take i lines ++ done now ls) (left_from lines i d here) ∙ ap (λ ls. take i lines ++ ls) (done_by now the_line (drop (i + 1) lines) free).0 ∙ sym (append_assoc (take i lines) (the_line ∷ []) rest_done)
+
+      long_first : length (take i lines ++ the_line ∷ []) ≡ i + 1
+      long_first = let first = size_of_first in let both = length-append (take i lines) (the_line ∷ []) in omega arith
+
+      next_firsts : take (i + 1) (done m lines) ≡ take i lines ++ the_line ∷ []
+      next_firsts =
+          ap (take (i + 1)) all_of_it
+          ∙ subst (λ n. take n ((take i lines ++ the_line ∷ []) ++ rest_done) ≡ take i lines ++ the_line ∷ []) long_first
+          (take-append-le (length (take i lines ++ the_line ∷ [])) (take i lines ++ the_line ∷ []) rest_done (omega arith) ∙ take-length (take i lines ++ the_line ∷ []))
+
+      below_done : i < length (done m lines)
+      below_done = let all = ap length all_of_it ∙ length-append (take i lines ++ the_line ∷ []) rest_done in let first = long_first in omega arith
+
+      -- the sink failed within its text
+      broke : (a b c : Option (List ℕ)) (f g h : ℕ) → Takes a (texts m (take i lines)) b → g ≡ f → WrotePart (text_of now (get_or lines i d).command) (record { before = b; after = c; faults = g; new_faults = h })
+          → BrokeOff i m lines (record { before = a; after = c; faults = f; new_faults = h })
+      unfolding the_line
+      broke a b c f g h before calm part =
+          let first = texts m (take i lines) in
+          let mine = text_of now the_line.command in
+          let both : texts m (take i lines ++ the_line ∷ []) ≡ first ++ mine = texts_append m (take i lines) (the_line ∷ []) ∙ ap (λ t. first ++ t) (append-nil (text_of (mesh_after_all m (take i lines)) the_line.command) ∙ ap (λ n. text_of n the_line.command) (sym so_far.mesh)) in
+          let later = texts (mesh_after_all m (take i lines ++ the_line ∷ [])) rest_done in
+          let all : texts m (done m lines) ≡ first ++ mine ++ later = ap (texts m) all_of_it ∙ texts_append m (take i lines ++ the_line ∷ []) rest_done ∙ ap (λ t. t ++ later) both in
+          let least : length first ≡ length (texts m (take i (done m lines))) = ap (λ ls. length (texts m ls)) (sym firsts) in
+          let most : length (first ++ mine) ≡ length (texts m (take (i + 1) (done m lines))) = ap length (sym both) ∙ ap (λ ls. length (texts m ls)) (sym next_firsts) in
+          record {
+            there = below_done;
+            took = subst (λ n. TookBetween (length (texts m (take i (done m lines)))) n (texts m (done m lines)) a c) most (subst (λ n. TookBetween n (length (first ++ mine)) (texts m (done m lines)) a c) least (cut_within a b c first mine later (texts m (done m lines)) all before part.takes));
+            rose = subst (λ n. Rose n h) calm part.rose;
+          }
+
+      -- the disk failed at it
+      begun_here : ((disk : D) (t : ℕ) (c : Areas) → t ≤ moment disk → may_leave disk c → left_since disk t c) → needs (get_or lines i d).command ≡ TheDisk → StaysWhole holds may_leave moment left_since (saved_by now (get_or lines i d).command) mid new → Rose (faults mid) (faults new) → WereBegun i m lines (run_of old new)
+      unfolding the_line
+      begun_here counts_now disk stays rose =
+          let ms = checkpoints m (take i lines) in
+          let step : StaysWhole holds may_leave moment left_since (now ∷ []) mid new = subst (λ x. StaysWhole holds may_leave moment left_since x mid new) (saves_mesh now the_line.command disk) stays in
+          let e : ms ++ now ∷ [] ≡ checkpoints m (take (i + 1) (done m lines)) = ap (λ x. ms ++ x) (sym (saves_mesh now the_line.command disk)) ∙ sym next_meshes ∙ ap (checkpoints m) (sym next_firsts) in
+          record {
+            rose = subst (λ n. Rose n (faults new)) kept.calm rose;
+            begun = (
+              subst (λ x. StaysWhole holds may_leave moment left_since x old new) e (more_stay holds may_leave moment left_since ms (now ∷ []) old mid new kept.stays kept.has step),
+              subst (λ x. LeavesLastTwo holds may_leave moment left_since x old new) e (one_begun holds may_leave moment left_since ms now old mid new (counts_now new) kept.stays kept.has step),
+            );
+            one = ap length (sym e) ∙ length-append ms (now ∷ []) ∙ ap (λ x. length (checkpoints m x) + 1) (sym firsts);
+          }
+
+    -- the command at which a run stands is refused
+    stopped_here : (number : ℕ) (reason : stops.Refusal) → number ≡ (get_or lines i d).number → refusal now (get_or lines i d).command ≡ Some reason → (stop m lines ≡ Some (record { line = number; why = reason })) × (done m lines ≡ take i lines)
+    stopped_here number reason number_is some =
+        let line = get_or lines i d in
+        let refused = stopped_by now line (drop (i + 1) lines) reason some in (
+          so_far.stops_later ∙ ap (stop now) (left_from lines i d here) ∙ refused.1 ∙ ap (λ n. Some (record { line = n; why = reason })) (sym number_is),
+          so_far.done_so_far ∙ ap (λ ls. take i lines ++ done now ls) (left_from lines i d here) ∙ ap (λ ls. take i lines ++ ls) refused.0 ∙ append-nil (take i lines),
+        )
+
+    -- a command was stopped
+    module _ (counts_now : (disk : D) (t : ℕ) (c : Areas) → t ≤ moment disk → may_leave disk c → left_since disk t c) (a b c : Option (List ℕ)) (f g h : ℕ) (number : ℕ) (number_is : number ≡ (get_or lines i d).number) (before : Takes a (texts m (take i lines)) b) (calm : g ≡ f)
+        (stays : StaysWhole holds may_leave moment left_since (saved_by now (get_or lines i d).command) mid new) (alone : needs (get_or lines i d).command ≢ TheDisk → new ≡ mid) where
+      pub run_stops : (stopper : StoppedBy) → MayStop stopper now (get_or lines i d).command → Leaves stopper (text_of now (get_or lines i d).command) (record { before = b; after = c; faults = g; new_faults = h }) → CountsFault stopper (faults mid) (faults new)
+          → RunStops stopper number m lines (record { before = a; after = c; faults = f; new_faults = h }) (run_of old new)
+      run_stops (by.Mesh reason) may leaves counts =
+          let at = stopped_here number reason number_is may in
+          let same = alone (unneeded now (get_or lines i d).command reason may) in (
+            at.0,
+            record { takes = subst (λ x. Takes a (texts m (done m lines)) x) (sym leaves.taken) (subst (λ t. Takes a t b) (ap (texts m) (sym at.1)) before); calm = leaves.calm ∙ calm },
+            kept_done m lines (take i lines) i old new refl (kept_same same) (length (done m lines)) (take-length (done m lines) ∙ at.1),
+          )
+      run_stops by.Sink may leaves counts = (
+        i,
+        broke may.1 a b c f g h before calm leaves,
+        kept_done m lines (take i lines) i old new refl (kept_same (alone (λ e. cc (sym may.0 ∙ e)))) i firsts,
+      )
+      run_stops by.Disk may leaves counts = (
+        i,
+        record { line = get_or lines i d; rest = drop (i + 1) lines; reached = reached_here; next = left_from lines i d here; wants = may },
+        record { takes = subst (λ t. Takes a t c) (ap (texts m) (sym firsts)) (subst (λ x. Takes a (texts m (take i lines)) x) (sym leaves.taken) before); calm = leaves.calm ∙ calm },
+        begun_here (not_refused now (get_or lines i d).command may) counts_now may stays counts,
+      )
+      run_stops by.Memory may leaves counts = (
+        i,
+        record { line = get_or lines i d; rest = drop (i + 1) lines; reached = reached_here; next = left_from lines i d here; wants = may },
+        record { takes = subst (λ t. Takes a t c) (ap (texts m) (sym firsts)) (subst (λ x. Takes a (texts m (take i lines)) x) (sym leaves.taken) before); calm = leaves.calm ∙ calm },
+        kept_done m lines (take i lines) i old new refl (kept_same (alone (λ e. cc (sym may ∙ e)))) i firsts,
+      )
+
+  -- all commands were done
+  pub kept_to_end : (m now : Mesh) (lines : List Line) (i : ℕ) (old new : D) → length lines ≤ i → Progress m lines i now → Kept m lines i old new → WereDone (length (done m lines)) m lines (run_of old new)
+  kept_to_end m now lines i old new far so_far kept =
+      kept_done m lines (take i lines) i old new refl kept (length (done m lines)) (take-length (done m lines) ∙ (all_done m now lines i far so_far).0)
+
+  -- nothing was done
+  pub none_done : ((disk : D) (c : Areas) → left_since disk (moment disk) c → may_leave disk c) → (m : Mesh) (lines : List Line) (disk : D) → WereDone 0 m lines (run_of disk disk)
+  none_done only_now m lines disk = let first = kept_first only_now m lines disk in record { calm = first.calm; saved = (first.stays, first.has) }

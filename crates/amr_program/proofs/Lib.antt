@@ -1,3 +1,9 @@
-pub mod Clauses
+pub mod Keeping
 pub mod Commands
+pub mod Coming
+pub mod Clauses
+pub mod Lasted
+pub mod Naming
 pub mod StopLine
+pub mod Beginning
+pub mod Parts

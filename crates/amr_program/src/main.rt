@@ -6,13 +6,19 @@ ghost use Rattle.std.specs.IoError.{error_kind};
 ghost use Rattle.std.specs.Prelude.{◌≡◌, ◌≢◌};
 ghost use Rattle.std.specs.Process.{exit_status};
 
+mod ending;
+mod lines;
 mod not_run;
+mod origin;
 mod program;
+#[cfg(test)]
+mod restart_tests;
 mod run;
 mod status;
 mod stop_line;
 #[cfg(test)]
 mod tests;
+mod words;
 
 use outside_io::folder_disk::FolderDisk;
 use outside_io::std_sink::StdSink;

@@ -19,6 +19,12 @@ pub enum Status {
     ReadFault,
     /// The sink failed.
     WriteFault,
+    /// The disk failed.
+    DiskFault,
+    /// An open area of the disk holds no image.
+    Damaged,
+    /// No area of the disk is open.
+    NoCheckpoint,
     /// Memory was refused.
     OutOfMemory,
 }
@@ -54,6 +60,9 @@ impl Status {
             Status::Level => 5,
             Status::ReadFault => 6,
             Status::WriteFault => 7,
+            Status::DiskFault => 8,
+            Status::Damaged => 9,
+            Status::NoCheckpoint => 10,
             Status::OutOfMemory => 11,
         }
     }

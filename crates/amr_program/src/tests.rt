@@ -150,7 +150,7 @@ const REFUSED: [(&[u8], &[u8]); 4] = [
         b"error: not built\n",
     ),
     (
-        b"domain 1 1 1\ncellvar u\ncheckpoint\nend\n",
+        b"domain 1 1 1\ncellvar u\nprint trace\nend\n",
         b"error: not built\n",
     ),
 ];

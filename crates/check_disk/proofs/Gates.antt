@@ -7,7 +7,8 @@ use Rattle.outside_io.specs.declared.disk.Area.{Area}
 use Rattle.outside_io.specs.Areas.{Areas, bytes_of, with_bytes, other_area}
 use Rattle.outside_io.specs.Crash.{Torn, Shortened, InArea, Follows, Only, OnlyIn, Rests}
 use Rattle.check_disk.specs.declared.target.Target.{Target}
-use Rattle.check_disk.specs.Held.{is_open, next_of}
+use Rattle.mesh_model.specs.Images.Held.{is_open}
+use Rattle.check_disk.specs.Held.{next_of}
 use Rattle.check_disk.specs.Steps.{IsShut, IsReady, IsWritten, IsBehind, IsOpened, KeepsGate}
 use Rattle.check_disk.proofs.Newer.{next_closed}
 

@@ -2,7 +2,8 @@
 use Rattle.std.proofs.Common.{◌≡◌, ◌⊎◌, inl, inr, Bool, true, false, Result, Ok, Err, refl}
 use Rattle.outside_io.specs.Areas.{Areas}
 use Rattle.check_disk.specs.Format.{Format}
-use Rattle.check_disk.specs.Held.{held_by, held, is_open, mesh_in, b_is_newer, IsWhole, IsGood}
+use Rattle.mesh_model.specs.Images.Held.{held_by, is_open, b_is_newer, IsWhole}
+use Rattle.check_disk.specs.Held.{held, mesh_in, IsGood}
 
 module _ {M F : Type 0} where
   not_ok : (e : F) (m : M) → ◌≡◌ {A = Result M F} (Err e) (Ok m) → ⊥

@@ -1,3 +1,4 @@
+pub mod BehindGates
 pub mod Body
 pub mod Gates
 pub mod Goods

@@ -6,7 +6,8 @@ use Rattle.outside_io.specs.declared.disk.Area.TheVariants.{A, B}
 use Rattle.outside_io.specs.Areas.{Areas, bytes_of, other_area}
 use Rattle.check_disk.specs.declared.target.Target.{Target}
 use Rattle.check_disk.specs.Format.{Format}
-use Rattle.check_disk.specs.Held.{is_open, turn_in, b_is_newer, mesh_in, Found, held_by, held, IsWhole, next_by, next_of}
+use Rattle.mesh_model.specs.Images.Held.{is_open, turn_in, b_is_newer, Found, held_by, IsWhole}
+use Rattle.check_disk.specs.Held.{mesh_in, held, next_by, next_of}
 
 not_a : {turn turn' : ℕ} → ◌≡◌ {A = Target} (record { area = A; turn = turn }) (record { area = B; turn = turn' }) → ⊥
 not_a next = cc (ap (λ (n : Target). n.area) next)

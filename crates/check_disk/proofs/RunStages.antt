@@ -5,7 +5,8 @@ use Rattle.outside_io.specs.Areas.{Areas}
 use Rattle.outside_io.specs.Crash.{LeavesOnly}
 use Rattle.outside_io.proofs.Moments.{joined, weaker}
 use Rattle.check_disk.specs.Format.{Format}
-use Rattle.check_disk.specs.Held.{Held, Found, held, IsWhole}
+use Rattle.mesh_model.specs.Images.Held.{Held, Found, IsWhole}
+use Rattle.check_disk.specs.Held.{held}
 use Rattle.check_disk.specs.Stages.{stage, IsStage}
 
 module _ {M F : Type 0} where

@@ -5,7 +5,8 @@ use Rattle.outside_io.specs.Crash.{LeavesOnly, Reads, Rests}
 use Rattle.outside_io.proofs.Moments.{weaker, joined, still_rests}
 use Rattle.check_disk.specs.declared.target.Target.{Target}
 use Rattle.check_disk.specs.Format.{Format}
-use Rattle.check_disk.specs.Held.{Found, held, is_open, mesh_in, turn_in, IsWhole, next_of}
+use Rattle.mesh_model.specs.Images.Held.{Found, is_open, turn_in, IsWhole}
+use Rattle.check_disk.specs.Held.{held, mesh_in, next_of}
 use Rattle.check_disk.specs.Steps.{IsBehind, IsOpened}
 use Rattle.check_disk.proofs.Newer.{held_closed, held_opened}
 use Rattle.check_disk.proofs.Gates.{behind_open}

@@ -2,7 +2,8 @@
 use Rattle.std.specs.Prelude.{◌≡◌, ℕ, zero, suc, ◌≤◌, List, [], ◌∷◌}
 use Rattle.outside_io.specs.Areas.{Areas}
 use Rattle.check_disk.specs.Format.{Format}
-use Rattle.check_disk.specs.Held.{Held, Found, held}
+use Rattle.mesh_model.specs.Images.Held.{Held, Found}
+use Rattle.check_disk.specs.Held.{held}
 
 -- what is held at first, and after each checkpoint of the meshes in turn
 abbrev pub stage : {M F : Type 0} → Held M F → List M → ℕ → Held M F

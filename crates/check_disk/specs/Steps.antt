@@ -3,7 +3,8 @@ use Rattle.std.specs.Prelude.{◌≡◌, ◌≢◌, ℕ, ◌≤◌, false, List,
 use Rattle.outside_io.specs.declared.disk.Area.{Area}
 use Rattle.outside_io.specs.Areas.{Areas, bytes_of, other_area}
 use Rattle.check_disk.specs.declared.target.Target.{Target}
-use Rattle.check_disk.specs.Held.{is_open, next_of}
+use Rattle.mesh_model.specs.Images.Held.{is_open}
+use Rattle.check_disk.specs.Held.{next_of}
 
 -- a gate that is not 1
 pub record IsShut (bytes : List ℕ) : Type 0 where

@@ -6,6 +6,9 @@
 pub mod laws;
 pub mod list_pieces;
 pub mod look;
+pub mod newest;
+#[cfg(test)]
+mod newest_tests;
 pub mod pieces;
 pub mod put;
 pub mod save;

@@ -4,7 +4,8 @@ ghost use Rattle.std.specs.List.{All};
 ghost use Rattle.outside_io.specs.Areas.{Areas};
 ghost use Rattle.outside_io.specs.Crash.{LeavesOnly, Rests};
 ghost use Rattle.outside_io.specs.Moved.{Rose};
-ghost use Rattle.check_disk.specs.Held.{Found, held, IsWhole};
+ghost use Rattle.mesh_model.specs.Images.Held.{Found, IsWhole};
+ghost use Rattle.check_disk.specs.Held.{held};
 ghost use Rattle.check_disk.specs.Stages.{stage, IsStage};
 
 use crate::look::survey;

@@ -66,7 +66,7 @@ marks_again test (b ∷ bs) (c ∷ cs) once e =
     let head : ((is_same_block b b && test c) || marked test bs cs b) ≡ test c = ap₂ (λ u w. (u && test c) || w) (same_shows b b refl) (marked_out test bs cs b once.0) ∙ or_none (test c) in
     ap₂ (λ u w. u ∷ w) head (same_tail test b c bs bs cs (λ d i. miss b d bs once.0 i) ∙ marks_again test bs cs once.1 (omega arith))
 
-code_back : (c : ℕ) → c ≤ 4 → code_of (is_parent c) (has_refine c) (has_derefine c) ≡ c
+pub code_back : (c : ℕ) → c ≤ 4 → code_of (is_parent c) (has_refine c) (has_derefine c) ≡ c
 code_back zero h = refl
 code_back (suc zero) h = refl
 code_back (suc (suc zero)) h = refl
@@ -74,7 +74,7 @@ code_back (suc (suc (suc zero))) h = refl
 code_back (suc (suc (suc (suc zero)))) h = refl
 code_back (suc (suc (suc (suc (suc n))))) h = absurd (omega arith)
 
-codes_back : (bs : List BlockAt) (cs : List ℕ) (f r d : BlockAt → Bool) → map f bs ≡ map is_parent cs → map r bs ≡ map has_refine cs → map d bs ≡ map has_derefine cs → AllByRecursion (λ c. c ≤ 4) cs → map (λ b. code_of (f b) (r b) (d b)) bs ≡ cs
+pub codes_back : (bs : List BlockAt) (cs : List ℕ) (f r d : BlockAt → Bool) → map f bs ≡ map is_parent cs → map r bs ≡ map has_refine cs → map d bs ≡ map has_derefine cs → AllByRecursion (λ c. c ≤ 4) cs → map (λ b. code_of (f b) (r b) (d b)) bs ≡ cs
 codes_back [] [] f r d ef er ed h = refl
 codes_back [] (c ∷ cs) f r d ef er ed h = absurd cc
 codes_back (b ∷ bs) [] f r d ef er ed h = absurd cc
@@ -88,13 +88,13 @@ codes_back (b ∷ bs) (c ∷ cs) f r d ef er ed h =
     let head : code_of (f b) (r b) (d b) ≡ c = (λ i. code_of (hf i) (hr i) (hd i)) ∙ code_back c h.0 in
     ap₂ (λ u w. u ∷ w) head (codes_back bs cs f r d tf tr td h.1)
 
-refine_low : (c : ℕ) → has_refine c ≡ true → is_parent c ≡ false
+pub refine_low : (c : ℕ) → has_refine c ≡ true → is_parent c ≡ false
 refine_low c t = elim (either_true (c == 1) (c == 3) t) [
   | inl e ↦ let one = eqb-true c 1 e in ap is_parent one
   | inr e ↦ let one = eqb-true c 3 e in ap is_parent one
 ]
 
-derefine_low : (c : ℕ) → has_derefine c ≡ true → is_parent c ≡ false
+pub derefine_low : (c : ℕ) → has_derefine c ≡ true → is_parent c ≡ false
 derefine_low c t = elim (either_true (c == 2) (c == 3) t) [
   | inl e ↦ let one = eqb-true c 2 e in ap is_parent one
   | inr e ↦ let one = eqb-true c 3 e in ap is_parent one
@@ -104,7 +104,7 @@ lowered_more : (b : BlockAt) (t : Bool) (flags : List Bool) (n : BlockAt) (bs : 
 lowered_more b true flags n bs i = i
 lowered_more b false flags n bs i = inr i
 
-implied : (a b : Bool) → (not a || b) ≡ true → a ≡ true → b ≡ true
+pub implied : (a b : Bool) → (not a || b) ≡ true → a ≡ true → b ≡ true
 implied true b h e = h
 implied false b h e = absurd cc
 
@@ -175,7 +175,7 @@ module _ (s : Shape) (shape : IsShape s) (codes : List ℕ) (fits : TreeFits s c
   unfolding grid_by
   grid_nodes = says.nodes_are
 
-  grid_flags : map (is_split_block (grid_by s codes)) (nodes (grid_by s codes).leaves) ≡ map is_parent codes
+  pub grid_flags : map (is_split_block (grid_by s codes)) (nodes (grid_by s codes).leaves) ≡ map is_parent codes
   unfolding grid_by
   grid_flags = says.flags_are
 

@@ -73,12 +73,12 @@ module _ (g : Grid) where
   next : g.shape.n + 1 ≡ suc g.shape.n
   next = omega arith
 
-  face_list : (a : Axis) → array_places g group.Face a ≡ places_of g.shape.n (face_stands a)
+  pub face_list : (a : Axis) → array_places g group.Face a ≡ places_of g.shape.n (face_stands a)
   face_list X = ap (λ u. box_list u g.shape.n g.shape.n place) next
   face_list Y = ap (λ u. box_list g.shape.n u g.shape.n place) next
   face_list Z = ap (λ u. box_list g.shape.n g.shape.n u place) next
 
-  edge_list : (a : Axis) → array_places g group.Edge a ≡ places_of g.shape.n (edge_stands a)
+  pub edge_list : (a : Axis) → array_places g group.Edge a ≡ places_of g.shape.n (edge_stands a)
   edge_list X = ap (λ u. box_list g.shape.n u u place) next
   edge_list Y = ap (λ u. box_list u g.shape.n u place) next
   edge_list Z = ap (λ u. box_list u u g.shape.n place) next

@@ -139,7 +139,7 @@ paired_shows low high t = by_cases (is_periodic_kind low) (is_periodic_kind high
     by_cases false true t = absurd cc
     by_cases false false t = refl
 
-shape_says : (s : Shape) → length s.sides ≡ 6 → is_shape s ≡ true → IsShape s
+pub shape_says : (s : Shape) → length s.sides ≡ 6 → is_shape s ≡ true → IsShape s
 shape_says s six t =
     let ks = s.sides in
     let c1 = (s.n == 4) || (s.n == 8) in
@@ -315,7 +315,7 @@ head_exact = as_exact (Unit {0} × (ℕ × (Shape × VariableNames))) Head (foll
 
 -- ---- the nodes
 
-small_says : (cs : List ℕ) → list_all (λ c. nat_le c 4) cs ≡ true → AllByRecursion (λ c. c ≤ 4) cs
+pub small_says : (cs : List ℕ) → list_all (λ c. nat_le c 4) cs ≡ true → AllByRecursion (λ c. c ≤ 4) cs
 small_says [] h = tt
 small_says (c ∷ cs) h = (leb-true _ _ (and_left (nat_le c 4) (list_all (λ d. nat_le d 4) cs) h), small_says cs (and_right (nat_le c 4) (list_all (λ d. nat_le d 4) cs) h))
 
@@ -326,25 +326,23 @@ small_shows (c ∷ cs) h = and_both (nat_le c 4) (list_all (λ d. nat_le d 4) cs
 abbrev CountFits : Shape → ℕ → Type 0
 CountFits s = PassFits (λ n. nat_lt 0 n && nat_le n (most_nodes s)) (λ n. n < 256 ^ 4)
 
+pub tree_says : (s : Shape) (cs : List ℕ) → 0 < length cs → length cs ≤ most_nodes s → is_tree s cs ≡ true → TreeFits s cs
+tree_says s cs some few t =
+    let t1 = list_all (λ c. nat_le c 4) cs in
+    let t2 = is_some (visited s.max (map is_parent cs) (start_leaves s)) in
+    let t3 = keeps_rule (grid_by s cs) in
+    let t4 = marks_stand s (blocks_by s cs) cs in
+    let four = all_four t1 t2 t3 t4 t in
+    record { some = some; few = few; small = small_says cs four.0; whole = four.1; rule = four.2; marks = four.3 }
+
 pub tree_exact : (s : Shape) → Exact (List ℕ) (tree s) (TreeFits s)
 tree_exact s = same_fits (TreeFits s)
     (pass_exact (List ℕ) (via (λ p. p.1) (λ cs. (length cs, cs)) (followed (where_passes (λ n. nat_lt 0 n && nat_le n (most_nodes s)) (number 4)) (λ n. times n any))) (λ cs. CountFits s (length cs))
     (counted_exact (where_passes (λ n. nat_lt 0 n && nat_le n (most_nodes s)) (number 4)) (CountFits s) (pass_exact ℕ (number 4) (λ n. n < 256 ^ 4) (number_exact 4) (λ n. nat_lt 0 n && nat_le n (most_nodes s))))
     (is_tree s))
-    (λ cs f.
-    let t1 = list_all (λ c. nat_le c 4) cs in
-    let t2 = is_some (visited s.max (map is_parent cs) (start_leaves s)) in
-    let t3 = keeps_rule (grid_by s cs) in
-    let t4 = marks_stand s (blocks_by s cs) cs in
-    let four = all_four t1 t2 t3 t4 f.1 in
-    record {
-      some = ltb-true _ _ (and_left (nat_lt 0 (length cs)) (nat_le (length cs) (most_nodes s)) f.0.1);
-      few = leb-true _ _ (and_right (nat_lt 0 (length cs)) (nat_le (length cs) (most_nodes s)) f.0.1);
-      small = small_says cs four.0;
-      whole = four.1;
-      rule = four.2;
-      marks = four.3;
-    })
+    (λ cs f. tree_says s cs
+    (ltb-true _ _ (and_left (nat_lt 0 (length cs)) (nat_le (length cs) (most_nodes s)) f.0.1))
+    (leb-true _ _ (and_right (nat_lt 0 (length cs)) (nat_le (length cs) (most_nodes s)) f.0.1)) f.1)
     (λ cs h.
     let t1 = list_all (λ c. nat_le c 4) cs in
     let t2 = is_some (visited s.max (map is_parent cs) (start_leaves s)) in

@@ -11,27 +11,6 @@ use Rattle.mesh_model.proofs.FieldLemmas.Walking.{Member}
 use Rattle.mesh_model.proofs.TreeLemmas.Tests.{or_left, or_right, refuted}
 use Rattle.check_format.proofs.Keys.{from_flat_map, from_map, from_range, member_parts}
 
--- ---- members
-
-member_left : {A : Type 0} (a : A) (xs ys : List A) → Member a xs → Member a (xs ++ ys)
-member_left a [] ys i = absurd i
-member_left a (x ∷ xs) ys (inl e) = inl e
-member_left a (x ∷ xs) ys (inr i) = inr (member_left a xs ys i)
-
-member_right : {A : Type 0} (a : A) (xs ys : List A) → Member a ys → Member a (xs ++ ys)
-member_right a [] ys i = i
-member_right a (x ∷ xs) ys i = inr (member_right a xs ys i)
-
-pub member_flat : {A B : Type 0} (f : A → List B) (a : A) (b : B) (xs : List A) → Member a xs → Member b (f a) → Member b (flat_map f xs)
-member_flat f a b [] i h = absurd i
-member_flat f a b (x ∷ xs) (inl e) h = member_left b (f x) (flat_map f xs) (subst (λ u. Member b (f u)) (sym e) h)
-member_flat f a b (x ∷ xs) (inr i) h = member_right b (f x) (flat_map f xs) (member_flat f a b xs i h)
-
-pub member_map : {A B : Type 0} (f : A → B) (a : A) (xs : List A) → Member a xs → Member (f a) (map f xs)
-member_map f a [] i = absurd i
-member_map f a (x ∷ xs) (inl e) = inl (ap f e)
-member_map f a (x ∷ xs) (inr i) = inr (member_map f a xs i)
-
 -- ---- lists in order
 
 abbrev pub InOrder : {A : Type 0} → (A → A → Type 0) → List A → Type 0

@@ -1,4 +1,7 @@
 pub mod Codecs
+pub mod Readers
+pub mod ReadNumbers
+pub mod ReadNodes
 pub mod Keys
 pub mod Cells
 pub mod Again
@@ -23,3 +26,5 @@ pub mod Putting
 pub mod NumberPieces
 pub mod Given
 pub mod Next
+pub mod Counting
+pub mod ReadImages

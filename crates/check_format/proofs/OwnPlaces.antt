@@ -17,13 +17,13 @@ use Rattle.mesh_model.specs.Images.Keyed.{fresh}
 use Rattle.mesh_model.specs.Tree.Kinds.{Grid, is_leaf_block, is_split_block}
 use Rattle.mesh_model.specs.Tree.Order.{IsIn, Sorted, key}
 use Rattle.mesh_model.specs.Tree.ValidGrid.{Valid}
-use Rattle.mesh_model.proofs.FieldLemmas.Walking.{Member}
+use Rattle.mesh_model.proofs.FieldLemmas.Walking.{Member, axis_member, in_leaves, member_box, member_flat, member_map}
 use Rattle.mesh_model.proofs.GeometryLemmas.ShapeLimits.{cells_most, cells_some}
 use Rattle.mesh_model.proofs.TreeLemmas.Tests.{either_true, or_left, or_right}
 use Rattle.mesh_model.proofs.TreeLemmas.Tiling.{leaf_says, leaf_shows}
 use Rattle.check_format.specs.Own.{Place, axes, goes_up, is_own, part_at, place, places_along, places_of, step_at}
 use Rattle.check_format.proofs.Cells.{member_in}
-use Rattle.check_format.proofs.InOrder.{InOrder, firsts_are, map_flat, map_twice, member_flat, member_map, order_box, order_flat, order_map, passed, passed_flat, passed_map}
+use Rattle.check_format.proofs.InOrder.{InOrder, firsts_are, map_flat, map_twice, order_box, order_flat, order_map, passed, passed_flat, passed_map}
 use Rattle.check_format.proofs.Keys.{from_box, from_flat_map, from_map}
 use Rattle.check_format.proofs.Sharing.{Choice, Chosen, Common, IsPlace, common, has, moved_place, named, place_toward, steps_are, toward_is, toward_parts}
 use Rattle.check_format.proofs.Taking.{other_says, own_calm, own_says}
@@ -77,16 +77,6 @@ leaves_in_order : (bs : List BlockAt) → Sorted bs → InOrder Earlier bs
 leaves_in_order [] s = tt
 leaves_in_order (b ∷ bs) s = (λ c i. s.0 c (member_in c bs i), leaves_in_order bs s.1)
 
-in_leaves : (b : BlockAt) (bs : List BlockAt) → IsIn b bs → Member b bs
-in_leaves b [] i = i
-in_leaves b (c ∷ bs) (inl e) = inl e
-in_leaves b (c ∷ bs) (inr i) = inr (in_leaves b bs i)
-
-axis_member : (a : Axis) → Member a axes
-axis_member X = inl refl
-axis_member Y = inr (inl refl)
-axis_member Z = inr (inr (inl refl))
-
 few_along : (n : ℕ) (stands : Bool) → n ≤ 8 → places_along n stands ≤ 9
 few_along n true h = omega arith
 few_along n false h = omega arith
@@ -99,19 +89,6 @@ module _ (n : ℕ) (few : n ≤ 8) (stands : Axis → Bool) where
 
   place_member : (p : Place) → IsPlace n stands p → Member p (places_of n stands)
   place_member p h = member_box (places_along n (stands X)) (places_along n (stands Y)) (places_along n (stands Z)) p.x p.y p.z place h.x h.y h.z
-    where
-      member_range : (a n m : ℕ) → a ≤ m → m < a + n → Member m (range_with_len a n)
-      member_range a zero m low high = absurd (omega arith)
-      member_range a (suc n) m low high = elim (cases_lt a m) [
-        | inl lt ↦ inr (member_range (a + 1) n m (omega arith) (omega arith))
-        | inr le ↦ inl (omega arith)
-      ]
-
-      member_box : {A : Type 0} (a b c i j k : ℕ) (at : ℕ → ℕ → ℕ → A) → i < a → j < b → k < c → Member (at i j k) (box_list a b c at)
-      member_box a b c i j k at hi hj hk =
-          member_flat (λ w. flat_map (λ v. map (λ u. at u v w) (range_with_len 0 a)) (range_with_len 0 b)) k (at i j k) (range_with_len 0 c) (member_range 0 c k (omega arith) (omega arith))
-          (member_flat (λ v. map (λ u. at u v k) (range_with_len 0 a)) j (at i j k) (range_with_len 0 b) (member_range 0 b j (omega arith) (omega arith))
-          (member_map (λ u. at u j k) i (range_with_len 0 a) (member_range 0 a i (omega arith) (omega arith))))
 
   places_in_order : InOrder Lower (places_of n stands)
   places_in_order =

@@ -1,28 +1,31 @@
 -- The body of an image is the spelling of what is stored, and what is stored of a valid mesh fits.
-use Rattle.std.proofs.Common.{◌≡◌, ℕ, zero, suc, ◌+◌, ◌*◌, ◌^◌, ◌<◌, ◌≤◌, Bool, true, false, not, ◌&&◌, ◌||◌, nat_lt, refl, sym, ap, ◌∙◌, arith, List, [], ◌∷◌, ◌++◌, map, flat_map, length, append_assoc, ℤ, lt-ltb}
-use Rattle.std.specs.Prelude.{nat_le, codes, is_some}
+use Rattle.std.proofs.Common.{◌≡◌, ℕ, zero, suc, ◌+◌, ◌-◌, ◌*◌, ◌^◌, ◌<◌, ◌≤◌, ◌==◌, ◌⊎◌, Bool, true, false, not, ◌&&◌, ◌||◌, cond, if◌then◌else◌, nat_lt, refl, sym, ap, ap₂, subst, ◌∙◌, arith, inl, inr, List, [], ◌∷◌, ◌++◌, map, flat_map, length, append_assoc, Option, Some, None, ℤ, pos, lt-ltb}
+use Rattle.std.specs.Prelude.{nat_le, codes, is_some, unwrap_or}
 use Rattle.std.specs.List.{list_all, AllByRecursion, range_with_len}
 use Rattle.std.specs.Option.{option_to_list}
-use Rattle.std.proofs.lemmas.Bool.{le-leb}
-use Rattle.std.proofs.lemmas.List.{length-map, map-id}
+use Rattle.std.proofs.lemmas.Bool.{cases_Bool, le-leb}
+use Rattle.std.proofs.lemmas.List.{append-nil, length-map, map-id}
 use Rattle.std.proofs.lemmas.List.Concat.{flat_map_single}
 use Rattle.amr_num.specs.declared.BlockAt.{BlockAt}
+use Rattle.amr_num.specs.declared.SideKind.{SideKind}
 use Rattle.amr_num.specs.Numbers.{Within}
+use Rattle.mesh_model.specs.declared.geometry.Shape.{Shape}
 use Rattle.mesh_model.specs.Tree.Order.{IsIn, nodes}
-use Rattle.mesh_model.specs.Tree.Kinds.{is_split_block}
+use Rattle.mesh_model.specs.Tree.Kinds.{Grid, is_split_block}
 use Rattle.mesh_model.specs.Fields.Plain.{Mesh}
 use Rattle.mesh_model.specs.Fields.RangeWalk.{cells_walked}
 use Rattle.mesh_model.specs.Tree.Start.{start_leaves}
 use Rattle.mesh_model.specs.Geometry.Touch.{touches}
+use Rattle.mesh_model.specs.Tree.ValidGrid.{Valid}
 use Rattle.mesh_model.specs.Fields.Valid.{ValidMesh}
 use Rattle.mesh_model.specs.Geometry.Blocks.{InDomain}
-use Rattle.mesh_model.proofs.TreeLemmas.Tests.{and_both, for_all}
+use Rattle.mesh_model.proofs.TreeLemmas.Tests.{refuted, and_both, for_all, or_left, or_right}
 use Rattle.block_tree.proofs.Leaves.{leaf_node}
 use Rattle.byteorder.specs.Endian.{little_bytes}
-use Rattle.mesh_model.specs.Images.Fits.{keeps_rule, marks_stand, TreeFits, CellsFit}
-use Rattle.mesh_model.specs.Tree.Forest.{visited}
-use Rattle.mesh_model.specs.Images.Image.{Head, Stored, stored, body, head_bytes, side_code, name_bytes, node_code, node_codes, code_of, content_bytes, cell_bytes, cell_numbers, face_places, edge_places, grid_by, has_refine, has_derefine}
-use Rattle.mesh_model.specs.Images.Reading.{ValuesFit, name, side, head, tree, values}
+use Rattle.mesh_model.specs.Images.Fits.{keeps_rule, marks_stand, TreeFits, NumbersFit, CellsFit, StoredFits}
+use Rattle.mesh_model.specs.Tree.Forest.{flags_of, visited, lowered}
+use Rattle.mesh_model.specs.Images.Image.{Head, Stored, stored, body, head_bytes, side_code, name_bytes, node_code, node_codes, code_of, content_bytes, out_bytes, cell_bytes, cell_numbers, face_places, edge_places, blocks_by, grid_by, is_parent, has_refine, has_derefine}
+use Rattle.mesh_model.specs.Images.Reading.{NamesFit, HeadFits, ValuesFit, name, side, head, tree, content, out, values}
 use Rattle.check_format.proofs.Again.{blocks_again, grid_again, flags_again}
 use Rattle.block_tree.proofs.Forests.{read_again}
 use Rattle.std.proofs.lemmas.Nat.{pow_pos}
@@ -122,6 +125,15 @@ length_range a (suc n) = ap suc (length_range (a + 1) n)
 corner : ℕ → BlockAt
 corner top = record { level = top; x = 0; y = 0; z = 0 }
 
+-- the test of the level rule passes at valid grids
+pub rule_shows : (g : Grid) → Valid g → keeps_rule g ≡ true
+unfolding keeps_rule
+rule_shows g valid =
+    let ls = g.leaves in
+    for_all (λ a. list_all (λ b. not (touches g.shape a b) || nat_le a.level (suc b.level)) ls) ls (λ a i.
+    for_all (λ b. not (touches g.shape a b) || nat_le a.level (suc b.level)) ls (λ b j.
+    where_then (touches g.shape a b) (nat_le a.level (suc b.level)) (λ t. le-leb _ _ (valid.rule.near a b i j t))))
+
 module _ (m : Mesh) (valid : ValidMesh m) (turn : ℕ) where
   marks_from : (bs : List BlockAt) → marks_stand m.grid.shape bs (map (node_code m) bs) ≡ true
   marks_from [] = refl
@@ -133,14 +145,6 @@ module _ (m : Mesh) (valid : ValidMesh m) (turn : ℕ) where
       let d = where_then (has_derefine c) (nat_lt low b.level) (λ t. lt-ltb _ _ (valid.marks.derefine b (derefine_of_code (is_split_block m.grid b) (m.refine b) (m.derefine b) t)).1) in
       and_both ((not (has_refine c) || nat_lt b.level top) && (not (has_derefine c) || nat_lt low b.level)) (marks_stand m.grid.shape bs (map (node_code m) bs))
       (and_both (not (has_refine c) || nat_lt b.level top) (not (has_derefine c) || nat_lt low b.level) r d) (marks_from bs)
-
-  rule_shows : keeps_rule m.grid ≡ true
-  unfolding keeps_rule
-  rule_shows =
-      let ls = m.grid.leaves in
-      for_all (λ a. list_all (λ b. not (touches m.grid.shape a b) || nat_le a.level (suc b.level)) ls) ls (λ a i.
-      for_all (λ b. not (touches m.grid.shape a b) || nat_le a.level (suc b.level)) ls (λ b j.
-      where_then (touches m.grid.shape a b) (nat_le a.level (suc b.level)) (λ t. le-leb _ _ (valid.grid.rule.near a b i j t))))
 
   pub some_node : 0 < length (nodes m.grid.leaves)
   unfolding corner
@@ -165,7 +169,7 @@ module _ (m : Mesh) (valid : ValidMesh m) (turn : ℕ) where
         few = omega arith;
         small = all_codes m (nodes m.grid.leaves);
         whole = ap (λ u. is_some (visited s.max u (start_leaves s))) (flags_again m (nodes m.grid.leaves)) ∙ ap is_some (read_again m.grid valid.grid valid.order).0;
-        rule = ap keeps_rule (grid_again m valid turn) ∙ rule_shows;
+        rule = ap keeps_rule (grid_again m valid turn) ∙ rule_shows m.grid valid.grid;
         marks = ap (λ u. marks_stand s u (node_codes m)) (blocks_again m valid turn) ∙ marks_from (nodes m.grid.leaves);
       }
 

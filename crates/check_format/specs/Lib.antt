@@ -2,3 +2,8 @@ pub mod Own
 pub mod Numbered
 pub mod Written
 pub mod Writing
+pub mod Readers
+pub mod Numbers
+pub mod Nodes
+pub mod Counts
+pub mod ReadImages

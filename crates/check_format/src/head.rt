@@ -11,6 +11,7 @@ ghost use Rattle.mesh_model.specs.Geometry.Limits.{IsShape};
 ghost use Rattle.mesh_model.specs.Images.Image as image;
 ghost use Rattle.mesh_model.specs.Tree.Kinds.{is_split_block};
 
+use crate::names::nth_name;
 use amr_num::SideKind;
 use block_tree::{Marks, Tree};
 use byteorder::{ByteOrder, LittleEndian};
@@ -104,41 +105,16 @@ pub fn put_fields(turn: u8, shape: &Shape, names: &Names, buf: &mut [u8]) -> usi
     size + put_rest(&shape.sides, names, &mut buf[size..])
 }
 
-/// Puts a name at the front of a buffer, after its length.
-fn put_text(name: &str, buf: &mut [u8]) -> usize
-    requires short { length name.now ≤ 16 }
+/// Puts the name at a place of all names at the front of a buffer, after its length.
+pub fn put_name(names: &Names, place: u32, buf: &mut [u8]) -> usize
+    requires place { place < length (written.all_names names.now) }
     requires room { 17 ≤ length buf.old }
-    ensures put { IsPut (image.name_bytes name.now) result buf.old buf.new }
+    ensures put { IsPut (written.name_piece names.now place) result buf.old buf.new }
     ensures few { result ≤ 17 }
 {
+    let name = nth_name(names, place);
     buf[0] = name.len() as u8;
     1 + put_bytes(name.as_bytes(), &mut buf[1..])
-}
-
-/// How many names there are.
-pub fn name_count(names: &Names) -> u32
-    ensures count { result ≡ length (written.all_names names.now) }
-    ensures few { result ≤ 6 }
-{
-    names.cells() + names.face().is_some() as u32 + names.edge().is_some() as u32
-}
-
-/// Puts a name at the front of a buffer: those of the cell variables, then that of the face and that of the edge
-/// variable.
-pub fn put_name(names: &Names, number: u32, buf: &mut [u8]) -> usize
-    requires number { number < length (written.all_names names.now) }
-    requires room { 17 ≤ length buf.old }
-    ensures put { IsPut (written.name_piece names.now number) result buf.old buf.new }
-    ensures few { result ≤ 17 }
-{
-    if number < names.cells() {
-        return put_text(names.cell(number), buf);
-    }
-    match (names.face(), names.edge()) {
-        (Some(face), _) if number == names.cells() => put_text(face, buf),
-        (_, Some(edge)) => put_text(edge, buf),
-        _ => 0,
-    }
 }
 
 /// Puts the number of nodes at the front of a buffer.

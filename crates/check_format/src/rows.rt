@@ -33,7 +33,7 @@ pub struct Row {
 
 impl Row {
     /// Whether the number at the place `i` on x is written under the leaf.
-    fn is_own(&self, tree: &Tree, own: &Own, i: u32) -> bool
+    pub fn is_own(&self, tree: &Tree, own: &Own, i: u32) -> bool
         requires own { let g = grid_of tree.now in IsOwn g (block_at g self.now.node) own.now }
         ensures { let g = grid_of tree.now in
             result ≡ written.is_own_place self.now.group g (block_at g self.now.node) self.now.axis (place i self.now.j self.now.k) }

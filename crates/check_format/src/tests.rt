@@ -12,7 +12,7 @@ use mesh_model::Shape;
 use std::alloc::Global;
 
 /// So many roots side by side on x, with sides of one kind on x and of one kind on the other axes.
-fn shape_of(roots: u32, on_x: SideKind, across: SideKind) -> Shape
+pub fn shape_of(roots: u32, on_x: SideKind, across: SideKind) -> Shape
     requires { (0 < roots) × (roots ≤ 8) }
     ensures shape { IsShape result }
     ensures max { result.max ≡ 1 }
@@ -30,7 +30,7 @@ fn shape_of(roots: u32, on_x: SideKind, across: SideKind) -> Shape
 }
 
 /// The tree of these roots, with the first of two refined.
-fn tree_of(alloc: Global, shape: Shape, refined: bool) -> Option<Tree>
+pub fn tree_of(alloc: Global, shape: Shape, refined: bool) -> Option<Tree>
     requires shape { IsShape shape }
     requires max { shape.max ≡ 1 }
 {

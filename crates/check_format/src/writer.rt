@@ -15,8 +15,9 @@ ghost use Rattle.mesh_model.specs.Tree.Kinds.{Grid};
 ghost use Rattle.check_format.specs.Written.{Numbers};
 ghost use Rattle.mesh_model.specs.declared.fields.values.Group.TheVariants as groups;
 
-use crate::head::{name_count, put_count, put_fields, put_name, put_node};
+use crate::head::{put_count, put_fields, put_name, put_node};
 use crate::leaves::{LastLeaf, group_count, put_group};
+use crate::names::name_count;
 use block_tree::{Marks, Tree};
 use byteorder::{ByteOrder, LittleEndian};
 use mesh_model::language::names::Names;

@@ -17,3 +17,14 @@ pub enum Part {
     /// Nothing before the digest.
     Ending,
 }
+
+/// Why bytes are no image.
+#[derive(Clone, Copy, Debug, PartialEq, Eq)]
+pub struct BadImage {
+    /// The first part that fails.
+    pub part: Part,
+    /// The digest that is kept: the last 32 bytes, or zeros where there are fewer.
+    pub kept: [u8; 32],
+    /// The digest that was found: that of the bytes before, or of all where there are fewer than 32.
+    pub found: [u8; 32],
+}

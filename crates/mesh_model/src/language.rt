@@ -2,3 +2,4 @@
 
 pub mod names;
 pub mod script;
+pub mod words;

@@ -19,5 +19,5 @@ pub use geometry::coordinates::{
 pub use geometry::{
     Shape, around_edge, canonical_face, inside_cell, inside_edge, inside_face, side_cells, touches,
 };
-pub use images::Part;
+pub use images::{BadImage, Part};
 pub use tree::NodeKind;

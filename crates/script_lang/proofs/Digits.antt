@@ -9,22 +9,6 @@ use Rattle.mesh_model.specs.declared.language.script.Reason.TheVariants.{NotNumb
 use Rattle.mesh_model.specs.Language.Words.{is_digit, is_positive, is_name_byte, is_name, number_of, digits_value, after_minus}
 use Rattle.mesh_model.specs.Language.Forms.{check, number, count}
 
-name_byte : (b : ℕ) → is_name_byte b ≡ true → b < 128
-name_byte b h = grind (arith, nat_tests)
-
-all_ascii : (xs : List ℕ) → list_all is_name_byte xs ≡ true → (i : ℕ) → slice_index xs i < 128
-all_ascii [] h i = omega arith
-all_ascii (x ∷ xs) h zero = name_byte x (and_parts _ _ h).0
-all_ascii (x ∷ xs) h (suc i) = all_ascii xs (and_parts (is_name_byte x) _ h).1 i
-
-pub name_is_ascii : (w : List ℕ) → is_name w ≡ true → IsAscii w
-unfolding is_name
-name_is_ascii w h = all_ascii w (and_parts _ _ (and_parts _ _ h).0).1
-
-pub name_is_short : (w : List ℕ) → is_name w ≡ true → length w ≤ 16
-unfolding is_name
-name_is_short w h = leb-true (length w) 16 (and_parts _ _ (and_parts _ _ (and_parts _ _ (and_parts _ _ h).0).0).0).1
-
 same_size : (z : ℤ) → unsigned_abs (neg_ℤ z) ≡ unsigned_abs z
 same_size (pos zero) = refl
 same_size (pos (suc n)) = refl

@@ -221,6 +221,12 @@ script_in_limits given bytes s within h =
     let r = read_lines given bytes s h in
     subst (λ (u : PlainScript). InLimits u.declared) r.2 (lines_within (lines_of bytes) (at_start given) 1 r.0 (starts_within given within) r.1)
 
+-- where the declarations are given, they are these
+pub script_keeps : (d : Declared) (bytes : List ℕ) (s : PlainScript) → script_of (Some d) bytes ≡ Ok s → s.declared ≡ d
+script_keeps d bytes s h =
+    let r = read_lines (Some d) bytes s h in
+    ap (λ (u : PlainScript). u.declared) (sym r.2) ∙ lines_keep (lines_of bytes) (at_start (Some d)) 1 r.0 refl r.1
+
 -- its commands fit its declarations
 pub script_fits : (given : Option Declared) (bytes : List ℕ) (s : PlainScript) → script_of given bytes ≡ Ok s → All (IsLineOf s.declared) s.lines
 script_fits given bytes s h =

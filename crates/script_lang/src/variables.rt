@@ -6,10 +6,10 @@ ghost use Rattle.mesh_model.specs.Fields.VariableNames.{longest_name};
 ghost use Rattle.mesh_model.specs.Language.Forms as form;
 ghost use Rattle.mesh_model.specs.Language.Words.{is_name};
 
-use crate::words::is_name;
 use mesh_model::Group;
 use mesh_model::language::names::Names;
 use mesh_model::language::script::Reason;
+use mesh_model::language::words::is_name;
 
 /// The number of the cell variable with this name.
 fn find_cell(names: &Names, name: &[u8]) -> Option<u32>

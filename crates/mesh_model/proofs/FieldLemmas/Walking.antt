@@ -34,39 +34,39 @@ abbrev pub Member : {A : Type 0} → A → List A → Type 0
 Member a [] = ⊥
 Member a (b ∷ bs) = (b ≡ a) ⊎ Member a bs
 
-member_left : {A : Type 0} (a : A) (xs ys : List A) → Member a xs → Member a (xs ++ ys)
+pub member_left : {A : Type 0} (a : A) (xs ys : List A) → Member a xs → Member a (xs ++ ys)
 member_left a [] ys h = absurd h
 member_left a (x ∷ xs) ys (inl e) = inl e
 member_left a (x ∷ xs) ys (inr i) = inr (member_left a xs ys i)
 
-member_right : {A : Type 0} (a : A) (xs ys : List A) → Member a ys → Member a (xs ++ ys)
+pub member_right : {A : Type 0} (a : A) (xs ys : List A) → Member a ys → Member a (xs ++ ys)
 member_right a [] ys h = h
 member_right a (x ∷ xs) ys h = inr (member_right a xs ys h)
 
-member_flat : {A B : Type 0} (f : A → List B) (a : A) (b : B) (xs : List A) → Member a xs → Member b (f a) → Member b (flat_map f xs)
+pub member_flat : {A B : Type 0} (f : A → List B) (a : A) (b : B) (xs : List A) → Member a xs → Member b (f a) → Member b (flat_map f xs)
 member_flat f a b [] i h = absurd i
 member_flat f a b (x ∷ xs) (inl e) h = member_left b (f x) (flat_map f xs) (subst (λ u. Member b (f u)) (sym e) h)
 member_flat f a b (x ∷ xs) (inr i) h = member_right b (f x) (flat_map f xs) (member_flat f a b xs i h)
 
-member_map : {A B : Type 0} (f : A → B) (a : A) (xs : List A) → Member a xs → Member (f a) (map f xs)
+pub member_map : {A B : Type 0} (f : A → B) (a : A) (xs : List A) → Member a xs → Member (f a) (map f xs)
 member_map f a [] i = absurd i
 member_map f a (x ∷ xs) (inl e) = inl (ap f e)
 member_map f a (x ∷ xs) (inr i) = inr (member_map f a xs i)
 
-member_range : (a n m : ℕ) → a ≤ m → m < a + n → Member m (range_with_len a n)
+pub member_range : (a n m : ℕ) → a ≤ m → m < a + n → Member m (range_with_len a n)
 member_range a zero m low high = absurd (omega arith)
 member_range a (suc n) m low high = elim (cases_lt a m) [
   | inl lt ↦ inr (member_range (a + 1) n m (omega arith) (omega arith))
   | inr le ↦ inl (omega arith)
 ]
 
-member_box : {A : Type 0} (a b c i j k : ℕ) (at : ℕ → ℕ → ℕ → A) → i < a → j < b → k < c → Member (at i j k) (box_list a b c at)
+pub member_box : {A : Type 0} (a b c i j k : ℕ) (at : ℕ → ℕ → ℕ → A) → i < a → j < b → k < c → Member (at i j k) (box_list a b c at)
 member_box a b c i j k at hi hj hk =
     member_flat (λ w. flat_map (λ v. map (λ u. at u v w) (range_with_len 0 a)) (range_with_len 0 b)) k (at i j k) (range_with_len 0 c) (member_range 0 c k (omega arith) (omega arith))
     (member_flat (λ v. map (λ u. at u v k) (range_with_len 0 a)) j (at i j k) (range_with_len 0 b) (member_range 0 b j (omega arith) (omega arith))
     (member_map (λ u. at u j k) i (range_with_len 0 a) (member_range 0 a i (omega arith) (omega arith))))
 
-in_leaves : (b : BlockAt) (bs : List BlockAt) → IsIn b bs → Member b bs
+pub in_leaves : (b : BlockAt) (bs : List BlockAt) → IsIn b bs → Member b bs
 in_leaves b [] i = absurd i
 in_leaves b (c ∷ bs) (inl e) = inl e
 in_leaves b (c ∷ bs) (inr i) = inr (in_leaves b bs i)
@@ -162,7 +162,7 @@ named s a q d =
 abbrev axes : List Axis
 axes = X ∷ Y ∷ Z ∷ []
 
-axis_member : (a : Axis) → Member a axes
+pub axis_member : (a : Axis) → Member a axes
 axis_member X = inl refl
 axis_member Y = inr (inl refl)
 axis_member Z = inr (inr (inl refl))

@@ -130,6 +130,16 @@ abbrev pub mesh_after_all : Mesh → List Line → Mesh
 mesh_after_all m [] = m
 mesh_after_all m (line ∷ lines) = mesh_after_all (mesh_after m line.command) lines
 
+-- the meshes that a command saves: at a checkpoint the one that stands
+abbrev pub saved_by : Mesh → Command → List Mesh
+saved_by m Checkpoint = m ∷ []
+saved_by m other = []
+
+-- the meshes that stand at the checkpoints among the commands, in order
+abbrev pub checkpoints : Mesh → List Line → List Mesh
+checkpoints m [] = []
+checkpoints m (line ∷ lines) = saved_by m line.command ++ checkpoints (mesh_after m line.command) lines
+
 -- ---- up to the first command that is refused
 
 -- the lines whose commands are done: those before the first that is refused

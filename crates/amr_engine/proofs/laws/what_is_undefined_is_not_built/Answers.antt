@@ -8,8 +8,7 @@ use Rattle.amr_engine.proofs.laws.what_is_undefined_is_not_built.Goals as goal
 
 command_not_built : (command : Command) → IsUndefined command → is_built_command command ≡ false
 command_not_built command (inl e) = ap is_built_command e
-command_not_built command (inr (inl e)) = ap is_built_command e
-command_not_built command (inr (inr e)) = ap is_built_command e
+command_not_built command (inr e) = ap is_built_command e
 
 -- one that fails the test fails the list
 one_fails : (p : Line → Bool) (lines : List Line) (k : ℕ) (d : Line) → k < length lines → p (get_or lines k d) ≡ false → list_all p lines ≡ false

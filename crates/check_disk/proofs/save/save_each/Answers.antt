@@ -2,7 +2,8 @@ use Rattle.std.proofs.Common.{◌≡◌, ◌+◌, length, get_or, map, sym, ap, 
 use Rattle.std.proofs.lemmas.List.{get_or-map, length-map}
 use Rattle.std.proofs.lemmas.List.Elements.{All-get_or}
 use Rattle.outside_io.proofs.Moments.{weaker}
-use Rattle.check_disk.specs.Held.{Found, held, IsWhole}
+use Rattle.mesh_model.specs.Images.Held.{Found, IsWhole}
+use Rattle.check_disk.specs.Held.{held}
 use Rattle.check_disk.specs.Stages.{stage, IsStage}
 use Rattle.check_disk.proofs.RunStages.{whole_stage, later_stage, item_same, rest_same, stage_moments, next_stage}
 use Rattle.check_disk.proofs.save.save_each.Goals as goal

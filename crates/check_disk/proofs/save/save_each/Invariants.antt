@@ -1,7 +1,8 @@
 use Rattle.std.proofs.Common.{◌≡◌, map, drop}
 use Rattle.outside_io.specs.Areas.{Areas}
 use Rattle.outside_io.specs.Crash.{LeavesOnly, Rests}
-use Rattle.check_disk.specs.Held.{held, IsWhole}
+use Rattle.mesh_model.specs.Images.Held.{IsWhole}
+use Rattle.check_disk.specs.Held.{held}
 use Rattle.check_disk.specs.Stages.{stage, IsStage}
 use Rattle.check_disk.proofs.save.save_each.Given as goal
 

@@ -1,6 +1,6 @@
 use Rattle.std.proofs.Common.{ap, arith, length}
 use Rattle.std.proofs.lemmas.Str.{IsUtf8-from_ascii}
-use Rattle.script_lang.proofs.Digits.{name_is_ascii, name_is_short}
+use Rattle.mesh_model.proofs.LanguageLemmas.Names.{name_is_ascii, name_is_short}
 use Rattle.script_lang.proofs.variables.text_of.Goals as goal
 
 pub unreachable-requires : goal.unreachable-requires

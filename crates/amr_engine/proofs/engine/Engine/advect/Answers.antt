@@ -45,6 +45,8 @@ invariant_of-self g c =
     let kept = wide c.in-Ok.out (2 ^ 100) (small_out self.names self.world self.outs.items self.marks self.laid_out valid c.args.var c.requires.variable c.args.speeds c.requires.speeds new told c.in-Ok.out done) (omega arith) in
     let is = advect_is self.names self.world self.outs.items self.marks self.laid_out valid c.args.var c.requires.variable c.args.speeds c.requires.speeds new told c.in-Ok.out done in
     record {
+      room = c.args.self.now.room;
+      named = c.args.self.now.named;
       fit = c.advect.ensures.fit;
       laid_out = subst (λ z. IsLaidOut self.names new (set self.outs.items c.args.var z) self.marks) (sym kept) (advect_laid self.names self.world self.outs.items self.marks self.laid_out valid c.args.var c.requires.variable c.args.speeds c.requires.speeds new told c.in-Ok.out done);
       valid = ∣ subst (λ z. ValidMesh (mesh_of self.names new (set self.outs.items c.args.var z) self.marks)) (sym kept) (subst ValidMesh (sym is) (advect_valid self.names self.world self.outs.items self.marks self.laid_out valid c.args.var c.requires.variable c.args.speeds c.requires.speeds new told c.in-Ok.out done)) ∣₁;
@@ -60,6 +62,8 @@ invariant_of-self-in-Err-1 g c =
     let steps = c.advect.ensures.steps m valid (of_now self.names self.world self.outs.items self.marks self.laid_out valid) (read_is self.names self.world self.outs.items self.marks self.laid_out valid c.args.var c.requires.variable c.index-out.result.now c.index-out.ensures) in
     let told_stop = hindered self.names self.world self.outs.items self.marks self.laid_out valid c.args.var c.requires.variable c.args.speeds c.requires.speeds new told c.in-Err.hindrance (subst (Steps m c.args.var c.args.speeds new) c.in-Err.is steps) in
     record {
+      room = c.args.self.now.room;
+      named = c.args.self.now.named;
       fit = c.advect.ensures.fit;
       laid_out = laid_same self.names self.world self.outs.items self.marks self.laid_out valid new told (steps_of m c.args.var c.args.speeds new c.in-Err.hindrance (subst (Steps m c.args.var c.args.speeds new) c.in-Err.is steps));
       valid = ∣ subst ValidMesh (sym told_stop.1) valid ∣₁;

@@ -32,7 +32,7 @@ returns-in-Ok-clause-balanced g c sets =
     subst (λ (after : Mesh). Balanced after.grid after.faces) (sym c.in-Ok.ensures.acts.1) (makes_balance m c.args.line.now.command (mesh_out m c.args.self.now.valid) sets)
 
 pub returns-in-Ok-clause-valid : goal.returns-in-Ok-clause-valid
-returns-in-Ok-clause-valid g c = mesh_out (plain c.act.new.self) c.act.new.self.valid
+returns-in-Ok-clause-valid g c = mesh_out (plain c.carry_out.new.self) c.carry_out.new.self.valid
 
 pub returns-in-Err-clause-valid : goal.returns-in-Err-clause-valid
-returns-in-Err-clause-valid g c = mesh_out (plain c.act.new.self) c.act.new.self.valid
+returns-in-Err-clause-valid g c = mesh_out (plain c.carry_out.new.self) c.carry_out.new.self.valid

@@ -42,7 +42,7 @@ invariant_of-self g c =
     set_kept self.names self.world self.outs.items self.marks self.laid_out valid commands.Curl (round self.names self.world self.outs.items self.marks self.laid_out valid)
     c.requires.fits (curl_refused self.names self.world self.outs.items self.marks self.laid_out valid) (curl_made self.names self.world self.outs.items self.marks self.laid_out valid)
     c.set_curl.new.world c.set_curl.result set.only (set.in_range _ edges) (set.holds _ edges) (if_error c.set_curl.result stays set.stays) in
-    record { fit = set.fit; laid_out = kept.0; valid = ∣ kept.1 ∣₁ }
+    record { room = c.args.self.now.room; named = c.args.self.now.named; fit = set.fit; laid_out = kept.0; valid = ∣ kept.1 ∣₁ }
 
 pub returns-in-Ok-clause-changes : goal.returns-in-Ok-clause-changes
 unfolding mesh_of

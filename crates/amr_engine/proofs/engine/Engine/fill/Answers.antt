@@ -30,6 +30,8 @@ invariant_of-self g c =
     let only = c.fill_leaves.ensures.only in
     let after = filled_valid self.names self.world self.outs.items self.marks self.laid_out valid c.args.var c.args.fill c.fill_leaves.new.world c.requires.variable only c.fill_leaves.ensures.filled c.requires.region c.requires.value in
     record {
+      room = c.args.self.now.room;
+      named = c.args.self.now.named;
       fit = c.fill_leaves.ensures.fit;
       laid_out = filled_laid self.names self.world self.outs.items self.marks self.laid_out valid c.args.var c.args.fill c.fill_leaves.new.world c.requires.variable only c.fill_leaves.ensures.filled after;
       valid = ∣ subst ValidMesh (sym (filled_is self.names self.world self.outs.items self.marks self.laid_out valid c.args.var c.args.fill c.fill_leaves.new.world c.requires.variable only c.fill_leaves.ensures.filled after)) after ∣₁;

@@ -42,6 +42,8 @@ invariant_of-self g c =
     let told : d.told ≡ a.told = guards_told group b d c.fill.ensures.only ∙ parents_told group a b c.restrict_all.ensures.only in
     let of : IsOfMesh d m = guards_stay group b d m c.fill.ensures.only (parents_stay group a b m c.restrict_all.ensures.only (of_now self.names self.world self.outs.items self.marks self.laid_out valid)) in
     record {
+      room = c.args.self.now.room;
+      named = c.args.self.now.named;
       fit = c.fill.ensures.fit;
       laid_out = laid_same self.names self.world self.outs.items self.marks self.laid_out valid d told of;
       valid = ∣ subst ValidMesh (sym (same_mesh self.names self.world self.outs.items self.marks self.laid_out valid d told of)) valid ∣₁;

@@ -34,7 +34,7 @@ invariant_of-self g c =
     let kept =
     induct_kept self.names self.world self.outs.items self.marks self.laid_out valid c.args.speeds c.requires.fits c.induct.new.world done.told c.induct.result
     (done.inducts m valid (of_now self.names self.world self.outs.items self.marks self.laid_out valid)) in
-    record { fit = done.fit; laid_out = kept.0; valid = ∣ kept.1 ∣₁ }
+    record { room = c.args.self.now.room; named = c.args.self.now.named; fit = done.fit; laid_out = kept.0; valid = ∣ kept.1 ∣₁ }
 
 pub returns-in-Ok-clause-changes : goal.returns-in-Ok-clause-changes
 unfolding mesh_of

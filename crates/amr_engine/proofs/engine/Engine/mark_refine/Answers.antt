@@ -45,6 +45,8 @@ invariant_of-self-2 g c =
     (subst (λ (b : BlockAt). IfErr result (λ stop. stop ≡ record { level = b.level; limit = (grid_of t).shape.max })) same told.stop)
     (subst (λ b. OnOk result (AddsBlock b (refine_of (grid_of t) self.marks) (refine_of (grid_of t) new))) same told.refine) told.derefine told.unchanged in
     record {
+      room = c.args.self.now.room;
+      named = c.args.self.now.named;
       fit = self.fit;
       laid_out = record {
         cells = self.laid_out.cells;

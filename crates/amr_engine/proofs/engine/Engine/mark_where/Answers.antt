@@ -25,6 +25,8 @@ invariant_of-self g c =
     let new = c.mark_where.new.marks in
     let is = where_is self.names self.world self.outs.items self.marks self.laid_out valid c.args.var c.requires.variable new c.args.rule c.mark_where.ensures.marked in
     record {
+      room = c.args.self.now.room;
+      named = c.args.self.now.named;
       fit = self.fit;
       laid_out = record {
         cells = self.laid_out.cells;

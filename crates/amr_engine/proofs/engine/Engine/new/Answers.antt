@@ -17,11 +17,13 @@ invariant_of-result g c =
     let space = c.in_ok-marks.ensures.room ∙ ap (λ h. most_nodes h.shape) grid in
     let many = c.cells-variables.ensures.count in
     let flowed = c.in_ok-outs.ensures in
-    let is = start_is g.row.N g.row.G d.shape d.names w c.cells-variables.result outs marks c.requires.shape c.requires.few many c.face_variables-faces.result c.edge_variables-edges.result c.face_variables-faces.ensures.any c.edge_variables-edges.ensures.any new none space flowed in
+    let is = start_is g.row.N g.row.G d.shape d.names w c.cells-variables.result outs marks c.requires.shape c.requires.names.few many c.face_variables-faces.result c.edge_variables-edges.result c.face_variables-faces.ensures.any c.edge_variables-edges.ensures.any new none space flowed in
     record {
+      room = c.in_ok-piece.ensures;
+      named = c.requires.names;
       fit = new.fit;
-      laid_out = start_laid g.row.N g.row.G d.shape d.names w c.cells-variables.result outs marks c.requires.shape c.requires.few many c.face_variables-faces.result c.edge_variables-edges.result c.face_variables-faces.ensures.any c.edge_variables-edges.ensures.any new none space flowed;
-      valid = ∣ subst ValidMesh (sym is) (start_valid g.row.N g.row.G d.shape d.names w c.cells-variables.result outs marks c.requires.shape c.requires.few many c.face_variables-faces.result c.edge_variables-edges.result c.face_variables-faces.ensures.any c.edge_variables-edges.ensures.any new none space flowed) ∣₁;
+      laid_out = start_laid g.row.N g.row.G d.shape d.names w c.cells-variables.result outs marks c.requires.shape c.requires.names.few many c.face_variables-faces.result c.edge_variables-edges.result c.face_variables-faces.ensures.any c.edge_variables-edges.ensures.any new none space flowed;
+      valid = ∣ subst ValidMesh (sym is) (start_valid g.row.N g.row.G d.shape d.names w c.cells-variables.result outs marks c.requires.shape c.requires.names.few many c.face_variables-faces.result c.edge_variables-edges.result c.face_variables-faces.ensures.any c.edge_variables-edges.ensures.any new none space flowed) ∣₁;
     }
 
 pub returns-clause-mesh : goal.returns-clause-mesh
@@ -34,4 +36,4 @@ returns-clause-mesh g c =
     let grid = c.tree.ensures ∙ new.grid_is in
     let none = subst (λ h. IsUnmarked h marks) grid c.in_ok-marks.ensures.none in
     let space = c.in_ok-marks.ensures.room ∙ ap (λ h. most_nodes h.shape) grid in
-    start_is g.row.N g.row.G d.shape d.names w c.cells-variables.result outs marks c.requires.shape c.requires.few c.cells-variables.ensures.count c.face_variables-faces.result c.edge_variables-edges.result c.face_variables-faces.ensures.any c.edge_variables-edges.ensures.any new none space c.in_ok-outs.ensures
+    start_is g.row.N g.row.G d.shape d.names w c.cells-variables.result outs marks c.requires.shape c.requires.names.few c.cells-variables.ensures.count c.face_variables-faces.result c.edge_variables-edges.result c.face_variables-faces.ensures.any c.edge_variables-edges.ensures.any new none space c.in_ok-outs.ensures

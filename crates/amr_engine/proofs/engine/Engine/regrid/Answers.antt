@@ -71,6 +71,8 @@ invariant_of-self-in-Ok-regrid g c =
     let none : IsUnmarked new.told.grid c.reset.new.self = subst (λ h. IsUnmarked h c.reset.new.self) c.tree-in-Ok-regrid.ensures c.reset.ensures.none in
     let is = regrid_is self.names self.world self.outs.items self.marks self.laid_out valid new c.reset.new.self done none in
     record {
+      room = c.args.self.now.room;
+      named = c.args.self.now.named;
       fit = c.in-Ok-regrid.ensures.fit;
       laid_out = regrid_laid self.names self.world self.outs.items self.marks self.laid_out valid new c.reset.new.self done none c.reset.ensures.room;
       valid = ∣ subst ValidMesh (sym is) (regrid_valid self.names self.world self.outs.items self.marks self.laid_out valid new c.reset.new.self done none) ∣₁;

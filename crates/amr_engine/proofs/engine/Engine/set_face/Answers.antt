@@ -49,6 +49,8 @@ invariant_of-self g c =
     let some = has_faces self.names self.world self.outs.items self.marks self.laid_out valid c.requires.fits.0 in
     let holds = c.agree.ensures.views (with_face m.faces c.args.at raw) (c.in-Ok.ensures.holds m.faces ((of_now self.names self.world self.outs.items self.marks self.laid_out valid).on_faces some)) in
     record {
+      room = c.args.self.now.room;
+      named = c.args.self.now.named;
       fit = c.agree.ensures.fit;
       laid_out = put_laid self.names self.world self.outs.items self.marks self.laid_out valid c.args.at c.args.value c.requires.fits mid raw whole there only set new second holds;
       valid =

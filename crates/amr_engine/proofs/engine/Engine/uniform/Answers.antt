@@ -27,7 +27,7 @@ invariant_of-self g c =
     set_kept self.names self.world self.outs.items self.marks self.laid_out valid (commands.Uniform b) (even self.names self.world self.outs.items self.marks self.laid_out valid b)
     (uniform_fits self.names self.world self.outs.items self.marks self.laid_out valid b c.requires.face c.requires.fluxes) (uniform_refused self.names self.world self.outs.items self.marks self.laid_out valid b) (uniform_made self.names self.world self.outs.items self.marks self.laid_out valid b)
     c.set_uniform.new.world c.set_uniform.result (faces_alone self.world c.set_uniform.new.world set.only) set.in_range set.holds (if_error c.set_uniform.result stays set.stays) in
-    record { fit = set.fit; laid_out = kept.0; valid = ∣ kept.1 ∣₁ }
+    record { room = c.args.self.now.room; named = c.args.self.now.named; fit = set.fit; laid_out = kept.0; valid = ∣ kept.1 ∣₁ }
 
 pub returns-in-Ok-clause-changes : goal.returns-in-Ok-clause-changes
 returns-in-Ok-clause-changes g c =

@@ -1,0 +1,9 @@
+pub mod SourceLemmas
+pub mod PlaceLemmas
+pub mod PutLemmas
+pub mod FillLemmas
+pub mod LeafLemmas
+pub mod SharedNumbers
+pub mod GroupNumbers
+pub mod WorldLemmas
+pub mod Pushed
