@@ -6,3 +6,4 @@ pub mod Actions
 pub mod Grammar
 pub mod Commands
 pub mod Reasons
+pub mod Sample

@@ -6,3 +6,8 @@ pub mod Declaring
 pub mod Acting
 pub mod Reading
 pub mod Scripts
+pub mod Drawing
+pub mod Sampling
+pub mod Numerals
+pub mod Wording
+pub mod Accepting

@@ -5,6 +5,7 @@ mod actions;
 mod declarations;
 pub mod laws;
 pub mod reader;
+pub mod sample;
 mod variables;
 pub mod words;
 
