@@ -1,5 +1,5 @@
 -- How runs begin: from declarations, or from the image that a disk holds.
-use Rattle.std.proofs.Common.{◌≡◌, ◌⊎◌, inl, inr, ℕ, ◌+◌, ◌<◌, Bool, true, false, if◌then◌else◌, All, List, [], drop, take, length, get_or, Option, Some, None, IfSome, Result, Ok, Err, cond, refl, sym, ap, subst, ◌∙◌, arith}
+use Rattle.std.proofs.Common.{◌≡◌, ◌⊎◌, inl, inr, ℕ, ◌+◌, ◌<◌, Bool, true, false, if◌then◌else◌, All, List, drop, Option, Some, None, IfSome, Result, Ok, Err, refl, sym, subst, arith}
 use Rattle.std.proofs.lemmas.List.{get_or-drop, get_or_default, length-drop}
 use Rattle.script_lang.proofs.Scripts.{script_fits, script_in_limits, script_keeps}
 use Rattle.outside_io.specs.Areas.{Areas}
@@ -7,7 +7,7 @@ use Rattle.outside_io.specs.declared.disk.Area.{Area}
 use Rattle.outside_io.specs.declared.disk.Area.TheVariants.{A, B}
 use Rattle.check_disk.specs.Images.{image_exact}
 use Rattle.check_disk.specs.Newest.{damaged}
-use Rattle.check_format.specs.ReadImages.{IsRead, stored_in}
+use Rattle.check_format.specs.ReadImages.{stored_in}
 use Rattle.check_format.specs.declared.reading.images.Image.{Image}
 use Rattle.mesh_model.specs.Fields.Plain.{Mesh}
 use Rattle.mesh_model.specs.Fields.Valid.{ValidMesh}
@@ -25,11 +25,11 @@ use Rattle.mesh_model.specs.declared.language.script.Declared.{Declared}
 use Rattle.mesh_model.specs.declared.language.script.Line.{Line}
 use Rattle.mesh_model.proofs.FieldLemmas.Start.{start_mesh_valid}
 use Rattle.amr_engine.specs.Built.{is_built}
-use Rattle.amr_program.specs.declared.not_run.NotRun.{NotRun}
 use Rattle.amr_program.specs.declared.not_run.NotRun.TheVariants as reasons
+use Rattle.amr_program.specs.declared.words.Asked.{Asked}
 use Rattle.amr_program.specs.declared.words.Start.{Start}
-use Rattle.amr_program.specs.declared.words.Start.TheVariants.{New, Restart}
-use Rattle.amr_program.specs.Answer.{AlongRun, HasBytes, Job, held_in, job_by, job_from, job_of, most_read, read_in, restarted}
+use Rattle.amr_program.specs.declared.words.Start.TheVariants.{New, Restart, Sample}
+use Rattle.amr_program.specs.Answer.{AlongRun, HasBytes, HasBytesAt, held_in, job_at, job_from, job_of, restarted}
 use Rattle.amr_program.specs.Origins.{CanDeclare, mesh_in}
 use Rattle.amr_program.proofs.Naming.{are_different, are_names, names_fit}
 
@@ -47,9 +47,9 @@ pub limits_read : (im : Image) → ValidMesh (mesh_in im) → NamesFit im.declar
 limits_read im valid names = record { shape = subst (λ (d : Declared). IsShape d.shape) (declared_read im) valid.grid.shape; names = are_names im.declared.names names; different = are_different im.declared.names names }
 
 -- an area that is open and holds no image keeps a run from being restarted
-pub damaged_job : (says : Option Declared → Result PlainScript Fault) (area : Area) (bad : BadImage) → restarted (damaged area bad) says ≡ Err (reasons.Damaged area bad)
-damaged_job says A bad = refl
-damaged_job says B bad = refl
+pub damaged_job : (asked : Asked) (says : Option Declared → Result PlainScript Fault) (area : Area) (bad : BadImage) → restarted asked (damaged area bad) says ≡ Err (reasons.Damaged area bad)
+damaged_job asked says A bad = refl
+damaged_job asked says B bad = refl
 
 -- ---- what is held is the mesh of an image
 
@@ -85,31 +85,36 @@ module _ (R : Mesh → Command → Mesh → Type 0) (law : (m : Mesh) (lines : L
   kept_by true m s valid fit = law m s.lines valid fit
   kept_by false m s valid fit = tt
 
-  kept_new : (read : Result PlainScript Fault) (bytes : List ℕ) → script_of None bytes ≡ read → AlongRun R (job_from first_mesh read)
-  kept_new (Ok s) bytes e =
-      let limits = script_in_limits None bytes s tt e in
-      kept_by (is_built s 1 1) (first_mesh s) s (start_mesh_valid s.declared.shape s.declared.names limits.shape limits.names.few) (script_fits None bytes s e)
-  kept_new (Err fault) bytes e = tt
+  module _ (asked : Asked) where
+    kept_new : (read : Result PlainScript Fault) (bytes : List ℕ) → script_of None bytes ≡ read → AlongRun R (job_from asked first_mesh read)
+    kept_new (Ok s) bytes e =
+        let limits = script_in_limits None bytes s tt e in
+        kept_by (is_built s asked.ranks asked.workers) (first_mesh s) s (start_mesh_valid s.declared.shape s.declared.names limits.shape limits.names.few) (script_fits None bytes s e)
+    kept_new (Err fault) bytes e = tt
 
-  kept_from : (m : Mesh) → ValidMesh m → (read : Result PlainScript Fault) (bytes : List ℕ) → script_of (Some (declared_in m)) bytes ≡ read → AlongRun R (job_from (λ s. m) read)
-  kept_from m valid (Ok s) bytes e = kept_by (is_built s 1 1) m s valid (subst (λ (d : Declared). All (IsLineOf d) s.lines) (script_keeps (declared_in m) bytes s e) (script_fits (Some (declared_in m)) bytes s e))
-  kept_from m valid (Err fault) bytes e = tt
+    kept_from : (m : Mesh) → ValidMesh m → (read : Result PlainScript Fault) (bytes : List ℕ) → script_of (Some (declared_in m)) bytes ≡ read → AlongRun R (job_from asked (λ s. m) read)
+    kept_from m valid (Ok s) bytes e = kept_by (is_built s asked.ranks asked.workers) m s valid (subst (λ (d : Declared). All (IsLineOf d) s.lines) (script_keeps (declared_in m) bytes s e) (script_fits (Some (declared_in m)) bytes s e))
+    kept_from m valid (Err fault) bytes e = tt
 
-  kept_held : (h : Held Mesh BadImage) → ((m : Mesh) → h ≡ Found m → ValidMesh m) → (bytes : List ℕ) → AlongRun R (restarted h (λ given. script_of given bytes))
-  kept_held Nothing valid bytes = tt
-  kept_held (DamagedA bad) valid bytes = tt
-  kept_held (DamagedB bad) valid bytes = tt
-  kept_held (Found m) valid bytes = kept_from m (valid m refl) _ bytes refl
+    kept_held : (h : Held Mesh BadImage) → ((m : Mesh) → h ≡ Found m → ValidMesh m) → (bytes : List ℕ) → AlongRun R (restarted asked h (λ given. script_of given bytes))
+    kept_held Nothing valid bytes = tt
+    kept_held (DamagedA bad) valid bytes = tt
+    kept_held (DamagedB bad) valid bytes = tt
+    kept_held (Found m) valid bytes = kept_from m (valid m refl) _ bytes refl
 
-  no_areas : (m : Mesh) → ◌≡◌ {A = Held Mesh BadImage} Nothing (Found m) → ValidMesh m
-  no_areas m e = cc e
+    no_areas : (m : Mesh) → ◌≡◌ {A = Held Mesh BadImage} Nothing (Found m) → ValidMesh m
+    no_areas m e = cc e
 
-  along : (start : Option Start) (disk : Option Areas) → HasBytes start disk → (all : List ℕ) → AlongRun R (job_of start (held_in disk) all)
-  along None disk are all = tt
-  along (Some New) disk are all = kept_new _ _ refl
-  along (Some Restart) None are all = kept_held Nothing no_areas (take most_read all)
-  along (Some Restart) (Some areas) are all = kept_held (held areas.a areas.b) (λ m is. held_valid areas m are.0 are.1 is) (take most_read all)
+    along_at : (start : Start) (disk : Option Areas) → HasBytesAt start disk → (script : List ℕ) → AlongRun R (job_at start asked (held_in disk) (λ given. script_of given script))
+    along_at New disk are script = kept_new _ _ refl
+    along_at (Sample seed) disk are script = kept_new _ _ refl
+    along_at Restart None are script = kept_held Nothing no_areas script
+    along_at Restart (Some areas) are script = kept_held (held areas.a areas.b) (λ m is. held_valid areas m are.0 are.1 is) script
 
-  pub along_run : (left : Option (List ℕ)) (start : Option Start) (disk : Option Areas) → HasBytes start disk → IfSome left (λ bytes. AlongRun R (job_of start (held_in disk) bytes))
-  along_run None start disk are = tt
-  along_run (Some all) start disk are = along start disk are all
+  along : (asked : Option Asked) (disk : Option Areas) → HasBytes asked disk → (script : List ℕ) → AlongRun R (job_of asked (held_in disk) script)
+  along None disk are script = tt
+  along (Some asked) disk are script = along_at asked asked.start disk are script
+
+  pub along_run : (script : Option (List ℕ)) (asked : Option Asked) (disk : Option Areas) → HasBytes asked disk → IfSome script (λ bytes. AlongRun R (job_of asked (held_in disk) bytes))
+  along_run None asked disk are = tt
+  along_run (Some bytes) asked disk are = along asked disk are bytes

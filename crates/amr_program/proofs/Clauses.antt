@@ -1,5 +1,5 @@
 -- What the clauses of the program say follows from how its run ended.
-use Rattle.std.proofs.Common.{◌≡◌, ◌≢◌, ℕ, zero, suc, Bool, true, false, if◌then◌else◌, ◌<◌, ◌≤◌, ◌+◌, ◌++◌, ◌⊎◌, List, [], ◌∷◌, Option, Some, None, IsSome, Result, Ok, Err, inl, inr, refl, sym, ap, subst, ◌∙◌, arith, IfSome, length, take, drop, map, append-nil, length-append}
+use Rattle.std.proofs.Common.{◌≡◌, ◌≢◌, ℕ, Bool, true, false, if◌then◌else◌, ◌<◌, ◌≤◌, ◌+◌, ◌++◌, ◌⊎◌, List, Option, Some, None, Result, Ok, Err, inl, inr, refl, sym, ap, subst, ◌∙◌, arith, IfSome, length, drop, length-append}
 use Rattle.mesh_model.specs.Language.Commands.{PlainScript}
 use Rattle.amr_engine.specs.Built.{is_built}
 use Rattle.mesh_model.specs.Language.Grammar.{Fault, script_of}
@@ -19,12 +19,14 @@ use Rattle.amr_program.specs.declared.status.Status.{Status}
 use Rattle.amr_program.specs.declared.status.Status.TheVariants as status
 use Rattle.amr_program.specs.declared.not_run.NotRun.{NotRun}
 use Rattle.amr_program.specs.declared.not_run.NotRun.TheVariants as reasons
+use Rattle.amr_program.specs.declared.words.Asked.{Asked}
 use Rattle.amr_program.specs.declared.words.Start.{Start}
-use Rattle.amr_program.specs.declared.words.Start.TheVariants.{New, Restart}
-use Rattle.amr_program.specs.Answer.{IsAccepted, IsAnswer, IsDamagedIn, IsStoppedWith, IsTold, IsUnrunWith, Job, KeepsOff, MayEnd, MayFail, MayPrint, MayWant, TookBeforeFault, TookBeforeMemory, TookPart, answer_of, count_in, done_in, ending, first_texts, held_in, job_by, job_from, job_of, most_read, restarted, start_in, status_of, status_unrun, stop_in}
-use Rattle.amr_program.specs.Lasting.{DiskRun, EndsAfter, HasLine, TookBetween, reach}
+use Rattle.amr_program.specs.declared.words.Start.TheVariants.{New, Restart, Sample}
+use Rattle.amr_program.specs.Answer.{IsAccepted, IsAnswer, IsDamagedIn, IsRestart, IsStoppedWith, IsTold, IsToldAt, IsUnrunWith, Job, KeepsOff, MayEnd, MayFail, ReadsAt, ReadsSource, TookBeforeFault, TookBeforeMemory, TookPart, answer_of, count_in, done_in, ending, first_texts, held_in, job_at, job_by, job_from, job_of, most_read, restarted, script_at, script_by, status_of, status_unrun, stop_in}
+use Rattle.amr_program.specs.Words.{asked_in}
+use Rattle.amr_program.specs.Lasting.{DiskRun, EndsAfter, EndsWanting, HasLine, IsOr, TookBetween, reach}
 use Rattle.amr_program.specs.Lines.{disk_line, memory_line, read_line, words_line}
-use Rattle.amr_program.specs.Outcome.{BeginsAt, ByBytes, ByWords, Came, Ended, FromBytes, LastsAt, OfJob, Outcome, Source, Unheld}
+use Rattle.amr_program.specs.Outcome.{BeginsAt, ByBytes, ByWords, Came, Ended, LastsAt, OfJob, Outcome, Source, left_at}
 use Rattle.amr_program.proofs.Coming.{at_first, firsts_short, refused_came}
 use Rattle.amr_program.proofs.Commands.{cut_line, took_part}
 use Rattle.std.proofs.Math.Seq.{take-length}
@@ -121,37 +123,41 @@ from_unrun_by : (built : Bool) (m : Mesh) (s : PlainScript) (kind : Status) → 
 from_unrun_by true m s kind is = absurd is
 from_unrun_by false m s kind is = sym is
 
-from_unrun : (from : PlainScript → Mesh) (read : Result PlainScript Fault) (kind : Status) → IsUnrunWith kind (job_from from read) → kind ≡ status.Script
-from_unrun from (Ok s) kind is = from_unrun_by (is_built s 1 1) (from s) s kind is
-from_unrun from (Err fault) kind is = sym is
+from_unrun : (asked : Asked) (from : PlainScript → Mesh) (read : Result PlainScript Fault) (kind : Status) → IsUnrunWith kind (job_from asked from read) → kind ≡ status.Script
+from_unrun asked from (Ok s) kind is = from_unrun_by (is_built s asked.ranks asked.workers) (from s) s kind is
+from_unrun asked from (Err fault) kind is = sym is
 
-module _ (says : Option Declared → Result PlainScript Fault) where
-  taken_words : (start : Start) (h : Held Mesh BadImage) → IsUnrunWith status.Words (job_by (Some start) h says) → ⊥
-  taken_words New h is = cc (from_unrun _ _ _ is)
+module _ (asked : Asked) (says : Option Declared → Result PlainScript Fault) where
+  taken_words : (start : Start) (h : Held Mesh BadImage) → IsUnrunWith status.Words (job_at start asked h says) → ⊥
+  taken_words New h is = cc (from_unrun asked _ _ _ is)
+  taken_words (Sample seed) h is = cc (from_unrun asked _ _ _ is)
   taken_words Restart Nothing is = cc is
   taken_words Restart (DamagedA bad) is = cc is
   taken_words Restart (DamagedB bad) is = cc is
-  taken_words Restart (Found m) is = cc (from_unrun _ _ _ is)
+  taken_words Restart (Found m) is = cc (from_unrun asked _ _ _ is)
 
-  nothing_held : (start : Start) (h : Held Mesh BadImage) → IsUnrunWith status.NoCheckpoint (job_by (Some start) h says) → (start ≡ Restart) × (h ≡ Nothing)
-  nothing_held New h is = absurd (cc (from_unrun _ _ _ is))
+  nothing_held : (start : Start) (h : Held Mesh BadImage) → IsUnrunWith status.NoCheckpoint (job_at start asked h says) → (start ≡ Restart) × (h ≡ Nothing)
+  nothing_held New h is = absurd (cc (from_unrun asked _ _ _ is))
+  nothing_held (Sample seed) h is = absurd (cc (from_unrun asked _ _ _ is))
   nothing_held Restart Nothing is = (refl, refl)
   nothing_held Restart (DamagedA bad) is = absurd (cc is)
   nothing_held Restart (DamagedB bad) is = absurd (cc is)
-  nothing_held Restart (Found m) is = absurd (cc (from_unrun _ _ _ is))
+  nothing_held Restart (Found m) is = absurd (cc (from_unrun asked _ _ _ is))
 
-  damaged_held : (start : Start) (h : Held Mesh BadImage) → IsUnrunWith status.Damaged (job_by (Some start) h says) → (start ≡ Restart) × IsDamagedIn h
-  damaged_held New h is = absurd (cc (from_unrun _ _ _ is))
+  damaged_held : (start : Start) (h : Held Mesh BadImage) → IsUnrunWith status.Damaged (job_at start asked h says) → (start ≡ Restart) × IsDamagedIn h
+  damaged_held New h is = absurd (cc (from_unrun asked _ _ _ is))
+  damaged_held (Sample seed) h is = absurd (cc (from_unrun asked _ _ _ is))
   damaged_held Restart Nothing is = absurd (cc is)
   damaged_held Restart (DamagedA bad) is = (refl, tt)
   damaged_held Restart (DamagedB bad) is = (refl, tt)
-  damaged_held Restart (Found m) is = absurd (cc (from_unrun _ _ _ is))
+  damaged_held Restart (Found m) is = absurd (cc (from_unrun asked _ _ _ is))
 
   -- a job is by what the disk tells
-  by_told : (start : Start) (told : Option Areas) (h : Held Mesh BadImage) → IsTold (Some start) told → IfSome told (λ areas. h ≡ held areas.a areas.b) → job_by (Some start) h says ≡ job_by (Some start) (held_in told) says
+  by_told : (start : Start) (told : Option Areas) (h : Held Mesh BadImage) → IsToldAt start told → IfSome told (λ areas. h ≡ held areas.a areas.b) → job_at start asked h says ≡ job_at start asked (held_in told) says
   by_told New told h is known = refl
+  by_told (Sample seed) told h is known = refl
   by_told Restart None h is known = absurd (false_not is)
-  by_told Restart (Some areas) h is known = ap (λ x. restarted x says) known
+  by_told Restart (Some areas) h is known = ap (λ x. restarted asked x says) known
 
 lasts_calm : (job : Result Job NotRun) (k : ℕ) (d : DiskRun) → LastsAt job k d → d.calm
 lasts_calm (Ok j) k d lasts = lasts.calm
@@ -311,11 +317,11 @@ module _ (job : Result Job NotRun) (result : Status) (w : Written) (d : DiskRun)
       let whole = (answer_of (Err reason)).text in
       if_short (nat_lt k 0) 0 (length whole) (length whole) (omega arith) (omega arith)
 
-  came_part : (start : Option Start) → Came job result w d → result ≡ status.WriteFault → (text : List ℕ) × ((text ≡ (answer_of job).text) ⊎ MayEnd start job d.rose text) × TakesPrefix w.before text w.after
-  came_part start (inl a) is = absurd (not_answer job result _ a.status_is is write_none write_nor)
-  came_part start (inr (inl a)) is = absurd (cc (sym is ∙ a.status_is))
-  came_part start (inr (inr (inl a))) is = absurd (cc (sym is ∙ a.status_is))
-  came_part start (inr (inr (inr a))) is = elim a.at [
+  came_part : (asked : Option Asked) → Came job result w d → result ≡ status.WriteFault → (text : List ℕ) × ((text ≡ (answer_of job).text) ⊎ MayEnd asked job d.rose text) × TakesPrefix w.before text w.after
+  came_part asked (inl a) is = absurd (not_answer job result _ a.status_is is write_none write_nor)
+  came_part asked (inr (inl a)) is = absurd (cc (sym is ∙ a.status_is))
+  came_part asked (inr (inr (inl a))) is = absurd (cc (sym is ∙ a.status_is))
+  came_part asked (inr (inr (inr a))) is = elim a.at [
     | inl cut ↦ ((answer_of job).text, inl refl, took_part w.before w.after _ _ (answer_of job).text (reach_short job a.commands) cut.0.took)
     | inr other ↦ elim other [
       | inl line ↦ (first_texts job a.commands ++ memory_line, inr (inl (a.commands, line.0, refl)), took_part w.before w.after _ _ _ (omega arith) line.1)
@@ -324,11 +330,11 @@ module _ (job : Result Job NotRun) (result : Status) (w : Written) (d : DiskRun)
   ]
 
   -- where it ended, and what the disk went through
-  came_ends : (start : Option Start) (unread : Type 0) → Came job result w d → (k : ℕ) × EndsAfter start job k result unread d.rose w.before w.after × (LastsAt job k d ⊎ BeginsAt job k d)
-  came_ends start unread (inl a) = (count_in job, inr (inr (inl (refl, a.status_is, a.wrote.takes))), inl a.disk)
-  came_ends start unread (inr (inl a)) = (a.commands, inr (inr (inr (inr (inl (inl a.status_is, a.wants, all_taken job a.commands memory_line a.wrote.takes))))), inl a.disk)
-  came_ends start unread (inr (inr (inl a))) = (a.commands, inr (inr (inr (inr (inr (inl a.status_is, begins_rose job a.commands d a.disk, a.fails, all_taken job a.commands disk_line a.wrote.takes))))), inr a.disk)
-  came_ends start unread (inr (inr (inr a))) = elim a.at [
+  came_ends : (asked : Option Asked) (unread : Type 0) → Came job result w d → (k : ℕ) × EndsAfter asked job k result unread d.rose d.untouched w.before w.after × (LastsAt job k d ⊎ BeginsAt job k d)
+  came_ends asked unread (inl a) = (count_in job, inr (inr (inl (refl, a.status_is, a.wrote.takes))), inl a.disk)
+  came_ends asked unread (inr (inl a)) = (a.commands, inr (inr (inr (inr (inl (inl a.status_is, a.wants, all_taken job a.commands memory_line a.wrote.takes))))), inl a.disk)
+  came_ends asked unread (inr (inr (inl a))) = (a.commands, inr (inr (inr (inr (inr (inl a.status_is, begins_rose job a.commands d a.disk, a.fails, all_taken job a.commands disk_line a.wrote.takes))))), inr a.disk)
+  came_ends asked unread (inr (inr (inr a))) = elim a.at [
     | inl cut ↦ (a.commands, inr (inr (inr (inl (a.status_is, cut.0)))), inl cut.1)
     | inr other ↦ elim other [
       | inl line ↦ (a.commands, inr (inr (inr (inr (inl (inr a.status_is, line.0, line.1))))), inl line.2)
@@ -358,254 +364,283 @@ module _ (job : Result Job NotRun) (result : Status) (w : Written) (d : DiskRun)
 
 -- ---- a run from its words on
 
-no_start : {start : Option Start} → start ≡ None → IsSome start → ⊥
-no_start none some = false_not (subst IsSome none some)
+none_asked : {asked : Option Asked} {a : Asked} → asked ≡ None → asked ≡ Some a → ⊥
+none_asked none some = let both : None ≡ Some _ = sym none ∙ some in cc both
 
 -- a line before any command
 line_alone : (a c : Option (List ℕ)) (job : Result Job NotRun) (line : List ℕ) → TookBetween 0 (length line) line a c → HasLine job 0 line a c
 line_alone a c (Ok j) line took = took
 line_alone a c (Err reason) line took = took
 
+after_no_text : (job : Result Job NotRun) (line : List ℕ) → line ≡ first_texts job 0 ++ line
+after_no_text (Ok j) line = refl
+after_no_text (Err reason) line = refl
+
 module _ (words : List (List ℕ)) (told : Option Areas) (result : Status) (s : Source) (w : Written) (d : DiskRun) where
-  -- what is so of the job that was run
-  on_bytes : (o : ByBytes words told result s w d) (of : OfJob (Some o.start) told o.bytes result w d) (P : Option Start → Result Job NotRun → Type 0) → IsTold (start_in words) told → P (Some o.start) (job_by (Some o.start) of.holds (λ given. script_of given o.bytes)) →
-      IfSome s.before (λ all. P (start_in words) (job_of (start_in words) (held_in told) all))
-  on_bytes o of P is_told p =
-      carried s.before _ _ o.left
-      (λ all h.
-      subst (λ st. P st (job_of st (held_in told) all)) (sym o.taken)
-      (subst (P (Some o.start)) (by_told (λ given. script_of given o.bytes) o.start told of.holds (subst (λ st. IsTold st told) o.taken is_told) of.known ∙ ap (λ b. job_by (Some o.start) (held_in told) (λ given. script_of given b)) h.0) p))
+  -- what is so of the job, where the bytes of its script are known
+  abbrev OnJob : (Option Asked → Result Job NotRun → Type 0) → Type 0
+  OnJob P = IfSome (script_by (asked_in words) s.before) (λ script. P (asked_in words) (job_of (asked_in words) (held_in told) script))
 
-  on_words : start_in words ≡ None → (P : Option Start → Result Job NotRun → Type 0) → P None (Err reasons.Words) → IfSome s.before (λ all. P (start_in words) (job_of (start_in words) (held_in told) all))
-  on_words refused P p = always s.before _ (λ all. subst (λ st. P st (job_of st (held_in told) all)) (sym refused) p)
+  abbrev Unread : Type 0
+  Unread = Rose s.faults s.new_faults
 
-  -- what is so of every job
-  on_all : (P : Option Start → Result Job NotRun → Type 0) → ((job : Result Job NotRun) → P (start_in words) job) → IfSome s.before (λ all. P (start_in words) (job_of (start_in words) (held_in told) all))
-  on_all P each = always s.before _ (λ all. each (job_of (start_in words) (held_in told) all))
+  -- of the job that was run
+  on_bytes : (asked : Asked) (taken : asked_in words ≡ Some asked) (o : ByBytes asked told result s w d) (of : OfJob asked told o.bytes result w d) (P : Option Asked → Result Job NotRun → Type 0) →
+      IsTold (asked_in words) told → P (Some asked) (job_of (Some asked) of.holds o.bytes) → OnJob P
+  on_bytes asked taken o of P is_told p =
+      let is : IsToldAt asked.start told = subst (λ a. IsTold a told) taken is_told in
+      subst (λ a. IfSome (script_by a s.before) (λ script. P a (job_of a (held_in told) script))) (sym taken)
+      (carried (script_at asked.start s.before) _ _ o.script
+      (λ script h. subst (P (Some asked)) (by_told asked (λ given. script_of given o.bytes) asked.start told of.holds is of.known ∙ ap (λ b. job_of (Some asked) (held_in told) b) h) p))
+
+  -- of words that are refused
+  on_words : asked_in words ≡ None → (P : Option Asked → Result Job NotRun → Type 0) → P None (Err reasons.Words) → OnJob P
+  on_words refused P p = subst (λ a. IfSome (script_by a s.before) (λ script. P a (job_of a (held_in told) script))) (sym refused) p
+
+  -- of every job
+  on_all : (P : Option Asked → Result Job NotRun → Type 0) → ((job : Result Job NotRun) → P (asked_in words) job) → OnJob P
+  on_all P each = always (script_by (asked_in words) s.before) _ (λ script. each (job_of (asked_in words) (held_in told) script))
 
   words_came : ByWords words result s w d → Came (Err reasons.Words) result w d
   words_came o = refused_came reasons.Words result w d o.disk_calm o.untouched (inl o.ended)
 
-  taken_some : (o : ByBytes words told result s w d) → IsSome (start_in words)
-  taken_some o = subst IsSome (sym o.taken) refl
+  is_restart : {asked : Asked} → asked_in words ≡ Some asked → asked.start ≡ Restart → IsRestart (asked_in words)
+  is_restart taken is = subst IsRestart (sym taken) is
 
-  pub answer : Outcome words told result s w d → IsTold (start_in words) told → ¬ Rose s.faults s.new_faults → ¬ d.rose → ¬ Rose w.faults w.new_faults → result ≢ status.OutOfMemory →
-      IfSome s.before (λ bytes. IsAnswer (answer_of (job_of (start_in words) (held_in told) bytes)) result w.before w.after)
-  answer (inl o) is_told quiet firm calm fed = on_words o.refused (λ st job. IsAnswer (answer_of job) result w.before w.after) (came_answer (Err reasons.Words) result w d (words_came o) firm calm fed)
-  answer (inr (inl o)) is_told quiet firm calm fed = absurd (quiet o.rose)
-  answer (inr (inr (inl o))) is_told quiet firm calm fed = elim o.ended [
-    | inl e ↦ absurd (fed e.0)
-    | inr e ↦ absurd (calm e.1.rose)
-  ]
-  answer (inr (inr (inr o))) is_told quiet firm calm fed = elim o.from [
-    | inl u ↦ absurd (firm u.rose)
-    | inr of ↦ on_bytes o of (λ st job. IsAnswer (answer_of job) result w.before w.after) is_told (came_answer _ result w d of.came firm calm fed)
-  ]
+  does_read : {asked : Asked} → asked_in words ≡ Some asked → ReadsAt asked.start → ReadsSource (asked_in words)
+  does_read taken reads = subst ReadsSource (sym taken) reads
 
-  -- what is told of a status that jobs alone have
-  of_job : (kind : Status) (P : Option Start → Result Job NotRun → Type 0) → kind ≢ status.ReadFault → kind ≢ status.OutOfMemory → kind ≢ status.DiskFault → kind ≢ status.WriteFault
-      → ((st : Option Start) (job : Result Job NotRun) → Came job result w d → result ≡ kind → P st job) → Outcome words told result s w d → result ≡ kind → IsTold (start_in words) told → IfSome s.before (λ bytes. P (start_in words) (job_of (start_in words) (held_in told) bytes))
-  of_job kind P not_read not_memory not_disk not_write each (inl o) is is_told = on_words o.refused P (each None (Err reasons.Words) (words_came o) is)
-  of_job kind P not_read not_memory not_disk not_write each (inr (inl o)) is is_told = elim o.ended [ inl e ↦ absurd (not_read (sym is ∙ e.0)) | inr e ↦ absurd (not_write (sym is ∙ e.0)) ]
-  of_job kind P not_read not_memory not_disk not_write each (inr (inr (inl o))) is is_told = elim o.ended [ inl e ↦ absurd (not_memory (sym is ∙ e.0)) | inr e ↦ absurd (not_write (sym is ∙ e.0)) ]
-  of_job kind P not_read not_memory not_disk not_write each (inr (inr (inr o))) is is_told = elim o.from [
-    | inl u ↦ elim u.ended [ inl e ↦ absurd (not_disk (sym is ∙ e.0)) | inr e ↦ absurd (not_write (sym is ∙ e.0)) ]
-    | inr of ↦ on_bytes o of P is_told (each (Some o.start) (job_by (Some o.start) of.holds (λ given. script_of given o.bytes)) of.came is)
-  ]
+  -- a line with another status
+  ended_not : (ends kind : Status) (line : List ℕ) → Ended ends line result w → kind ≢ ends → kind ≢ status.WriteFault → result ≡ kind → ⊥
+  ended_not ends kind line (inl e) other whole is = other (sym is ∙ e.0)
+  ended_not ends kind line (inr e) other whole is = whole (sym is ∙ e.0)
 
-  pub script_refused : Outcome words told result s w d → result ≡ status.Script → IsTold (start_in words) told → IfSome s.before (λ bytes. IsUnrunWith status.Script (job_of (start_in words) (held_in told) bytes))
-  script_refused = of_job status.Script (λ st job. IsUnrunWith status.Script job) (λ e. cc e) (λ e. cc e) (λ e. cc e) (λ e. cc e) (λ st job came is. came_unrun job result w d status.Script script_none (λ e. cc e) (λ e. cc e) (λ e. cc e) came is)
+  -- a line that was not written whole
+  ended_cut : (ends : Status) (line : List ℕ) → Ended ends line result w → ends ≢ status.WriteFault → result ≡ status.WriteFault → WrotePart line w
+  ended_cut ends line (inl e) other is = absurd (other (sym e.0 ∙ is))
+  ended_cut ends line (inr e) other is = e.1
 
-  pub stopped : Outcome words told result s w d → result ≡ status.Stopped → IsTold (start_in words) told → IfSome s.before (λ bytes. IsStoppedWith status.Stopped (job_of (start_in words) (held_in told) bytes))
-  stopped = of_job status.Stopped (λ st job. IsStoppedWith status.Stopped job) (λ e. cc e) (λ e. cc e) (λ e. cc e) (λ e. cc e) (λ st job came is. came_stopped job result w d status.Stopped (λ e. cc e) stopped_nor (λ e. cc e) (λ e. cc e) (λ e. cc e) came is)
+  -- a line that was written whole
+  ended_whole : (ends : Status) (line : List ℕ) → Ended ends line result w → ¬ Rose w.faults w.new_faults → (result ≡ ends) × Takes w.before line w.after
+  ended_whole ends line (inl e) calm = (e.0, e.1.takes)
+  ended_whole ends line (inr e) calm = absurd (calm e.1.rose)
 
-  pub level : Outcome words told result s w d → result ≡ status.Level → IsTold (start_in words) told → IfSome s.before (λ bytes. IsStoppedWith status.Level (job_of (start_in words) (held_in told) bytes))
-  level = of_job status.Level (λ st job. IsStoppedWith status.Level job) (λ e. cc e) (λ e. cc e) (λ e. cc e) (λ e. cc e) (λ st job came is. came_stopped job result w d status.Level (λ e. cc e) level_nor (λ e. cc e) (λ e. cc e) (λ e. cc e) came is)
+  ended_or : (ends : Status) (line : List ℕ) → Ended ends line result w → IsOr ends result
+  ended_or ends line (inl e) = inl e.0
+  ended_or ends line (inr e) = inr e.0
 
-  -- the status of a job that is not run
-  unrun : (kind : Status) → of_run kind ≡ false → kind ≢ status.ReadFault → kind ≢ status.OutOfMemory → kind ≢ status.DiskFault → kind ≢ status.WriteFault → Outcome words told result s w d → result ≡ kind →
-      ((start_in words ≡ None) × (kind ≡ status.Words)) ⊎ ((start : Start) × (h : Held Mesh BadImage) × (says : (Option Declared → Result PlainScript Fault)) × (start_in words ≡ Some start) × IfSome told (λ areas. h ≡ held areas.a areas.b) × IsUnrunWith kind (job_by (Some start) h says))
-  unrun kind never not_read not_memory not_disk not_write (inl o) is = inl (o.refused, sym (came_unrun _ result w d kind never not_memory not_disk not_write (words_came o) is))
-  unrun kind never not_read not_memory not_disk not_write (inr (inl o)) is = elim o.ended [ inl e ↦ absurd (not_read (sym is ∙ e.0)) | inr e ↦ absurd (not_write (sym is ∙ e.0)) ]
-  unrun kind never not_read not_memory not_disk not_write (inr (inr (inl o))) is = elim o.ended [ inl e ↦ absurd (not_memory (sym is ∙ e.0)) | inr e ↦ absurd (not_write (sym is ∙ e.0)) ]
-  unrun kind never not_read not_memory not_disk not_write (inr (inr (inr o))) is = elim o.from [
-    | inl u ↦ elim u.ended [ inl e ↦ absurd (not_disk (sym is ∙ e.0)) | inr e ↦ absurd (not_write (sym is ∙ e.0)) ]
-    | inr of ↦ inr (o.start, of.holds, (λ given. script_of given o.bytes), o.taken, of.known, came_unrun _ result w d kind never not_memory not_disk not_write of.came is)
-  ]
-
-  pub words_refused : Outcome words told result s w d → result ≡ status.Words → start_in words ≡ None
-  words_refused o is = elim (unrun status.Words words_none (λ e. cc e) (λ e. cc e) (λ e. cc e) (λ e. cc e) o is) [
-    | inl e ↦ e.0
-    | inr u ↦ absurd (taken_words u.2 u.0 u.1 u.5)
-  ]
-
-  pub no_checkpoint : Outcome words told result s w d → result ≡ status.NoCheckpoint → (start_in words ≡ Some Restart) × IfSome told (λ areas. held areas.a areas.b ≡ Nothing)
-  no_checkpoint o is = elim (unrun status.NoCheckpoint checkpoint_none (λ e. cc e) (λ e. cc e) (λ e. cc e) (λ e. cc e) o is) [
-    | inl e ↦ absurd (cc e.1)
-    | inr u ↦ (let none = nothing_held u.2 u.0 u.1 u.5 in (u.3 ∙ ap Some none.0, carried told _ _ u.4 (λ areas h. sym h ∙ none.1)))
-  ]
-
-  pub damaged : Outcome words told result s w d → result ≡ status.Damaged → (start_in words ≡ Some Restart) × IfSome told (λ areas. IsDamagedIn (held areas.a areas.b))
-  damaged o is = elim (unrun status.Damaged damaged_none (λ e. cc e) (λ e. cc e) (λ e. cc e) (λ e. cc e) o is) [
-    | inl e ↦ absurd (cc e.1)
-    | inr u ↦ (let bad = damaged_held u.2 u.0 u.1 u.5 in (u.3 ∙ ap Some bad.0, carried told _ _ u.4 (λ areas h. subst IsDamagedIn h bad.1)))
-  ]
-
-  pub words_alone : Outcome words told result s w d → start_in words ≡ None → (result ≡ status.Words) ⊎ (result ≡ status.WriteFault)
-  words_alone (inl o) none = elim o.ended [ inl e ↦ inl e.0 | inr e ↦ inr e.0 ]
-  words_alone (inr (inl o)) none = absurd (no_start none o.taken)
-  words_alone (inr (inr (inl o))) none = absurd (no_start none o.taken)
-  words_alone (inr (inr (inr o))) none = let both : None ≡ Some o.start = sym none ∙ o.taken in absurd (cc both)
-
-  pub read_fault : Outcome words told result s w d → result ≡ status.ReadFault → Rose s.faults s.new_faults
-  read_fault (inl o) is = absurd (came_never _ result w d status.ReadFault read_none read_nor (λ e. cc e) (λ e. cc e) (λ e. cc e) (words_came o) is)
-  read_fault (inr (inl o)) is = o.rose
-  read_fault (inr (inr (inl o))) is = elim o.ended [ inl e ↦ absurd (cc (sym is ∙ e.0)) | inr e ↦ absurd (cc (sym is ∙ e.0)) ]
-  read_fault (inr (inr (inr o))) is = elim o.from [
-    | inl u ↦ elim u.ended [ inl e ↦ absurd (cc (sym is ∙ e.0)) | inr e ↦ absurd (cc (sym is ∙ e.0)) ]
-    | inr of ↦ absurd (came_never _ result w d status.ReadFault read_none read_nor (λ e. cc e) (λ e. cc e) (λ e. cc e) of.came is)
-  ]
-
-  pub read_fault_told : Outcome words told result s w d → s.faults < s.new_faults → ¬ Rose w.faults w.new_faults → (result ≡ status.ReadFault) × Takes w.before read_line w.after
-  read_fault_told (inl o) more calm = let same = o.calm in absurd (omega arith)
-  read_fault_told (inr (inl o)) more calm = elim o.ended [ inl e ↦ (e.0, e.1.takes) | inr e ↦ absurd (calm e.1.rose) ]
-  read_fault_told (inr (inr (inl o))) more calm = let same = o.calm in absurd (omega arith)
-  read_fault_told (inr (inr (inr o))) more calm = let same = o.calm in absurd (omega arith)
-
-  pub disk_fault : Outcome words told result s w d → result ≡ status.DiskFault → d.rose
-  disk_fault (inl o) is = came_broken _ result w d (words_came o) is
-  disk_fault (inr (inl o)) is = elim o.ended [ inl e ↦ absurd (cc (sym is ∙ e.0)) | inr e ↦ absurd (cc (sym is ∙ e.0)) ]
-  disk_fault (inr (inr (inl o))) is = elim o.ended [ inl e ↦ absurd (cc (sym is ∙ e.0)) | inr e ↦ absurd (cc (sym is ∙ e.0)) ]
-  disk_fault (inr (inr (inr o))) is = elim o.from [ inl u ↦ u.rose | inr of ↦ came_broken _ result w d of.came is ]
-
-  pub disk_fault_told : Outcome words told result s w d → ¬ d.calm → ¬ Rose w.faults w.new_faults → IsTold (start_in words) told → (result ≡ status.DiskFault) × IfSome s.before (λ bytes. TookBeforeFault (start_in words) (job_of (start_in words) (held_in told) bytes) w.before w.after)
-  disk_fault_told (inl o) moved calm is_told = let f = came_faulty (Err reasons.Words) result w d (words_came o) moved calm in absurd f.2
-  disk_fault_told (inr (inl o)) moved calm is_told = absurd (moved o.disk_calm)
-  disk_fault_told (inr (inr (inl o))) moved calm is_told = absurd (moved o.disk_calm)
-  disk_fault_told (inr (inr (inr o))) moved calm is_told = elim o.from [
-    | inl u ↦ elim u.ended [
-      | inl e ↦ (e.0, on_all (λ st job. TookBeforeFault st job w.before w.after) (λ job. inl (o.taken ∙ u.restart, e.1.takes)))
-      | inr e ↦ absurd (calm e.1.rose)
-    ]
-    | inr of ↦ (let f = came_faulty _ result w d of.came moved calm in (f.0, on_bytes o of (λ st job. TookBeforeFault st job w.before w.after) is_told (inr (f.1, f.2, f.3))))
-  ]
-
-  pub write_fault : Outcome words told result s w d → result ≡ status.WriteFault → Rose w.faults w.new_faults
-  write_fault (inl o) is = came_cut _ result w d (words_came o) is
-  write_fault (inr (inl o)) is = elim o.ended [ inl e ↦ absurd (cc (sym is ∙ e.0)) | inr e ↦ e.1.rose ]
-  write_fault (inr (inr (inl o))) is = elim o.ended [ inl e ↦ absurd (cc (sym is ∙ e.0)) | inr e ↦ e.1.rose ]
-  write_fault (inr (inr (inr o))) is = elim o.from [
-    | inl u ↦ elim u.ended [ inl e ↦ absurd (cc (sym is ∙ e.0)) | inr e ↦ e.1.rose ]
-    | inr of ↦ came_cut _ result w d of.came is
-  ]
+  -- as much of the line as was written
+  ended_between : (ends : Status) (line : List ℕ) → Ended ends line result w → TookBetween 0 (length line) line w.before w.after
+  ended_between ends line (inl e) = between w.before w.after 0 line (omega arith) e.1.takes
+  ended_between ends line (inr e) = cut_line w.before w.after line e.1.takes
 
   ended_told : (ends : Status) (line : List ℕ) → Ended ends line result w → w.faults < w.new_faults → result ≡ status.WriteFault
   ended_told ends line (inl e) more = let same = e.1.calm in absurd (omega arith)
   ended_told ends line (inr e) more = e.0
 
+  pub answer : Outcome words told result s w d → IsTold (asked_in words) told → ¬ Unread → ¬ d.rose → ¬ Rose w.faults w.new_faults → result ≢ status.OutOfMemory → OnJob (λ a job. IsAnswer (answer_of job) result w.before w.after)
+  answer (inl o) is_told quiet firm calm fed = on_words o.refused (λ a job. IsAnswer (answer_of job) result w.before w.after) (came_answer (Err reasons.Words) result w d (words_came o) firm calm fed)
+  answer (inr (inl o)) is_told quiet firm calm fed = absurd (fed (ended_whole _ _ o.ended calm).0)
+  answer (inr (inr (asked, taken, inl o))) is_told quiet firm calm fed = absurd (quiet o.rose)
+  answer (inr (inr (asked, taken, inr (inl o)))) is_told quiet firm calm fed = absurd (fed (ended_whole _ _ o.ended calm).0)
+  answer (inr (inr (asked, taken, inr (inr o)))) is_told quiet firm calm fed = elim o.from [
+    | inl u ↦ absurd (firm u.rose)
+    | inr of ↦ on_bytes asked taken o of (λ a job. IsAnswer (answer_of job) result w.before w.after) is_told (came_answer _ result w d of.came firm calm fed)
+  ]
+
+  -- what is told of a status that jobs alone have
+  of_job : (kind : Status) (P : Option Asked → Result Job NotRun → Type 0) → kind ≢ status.ReadFault → kind ≢ status.OutOfMemory → kind ≢ status.DiskFault → kind ≢ status.WriteFault
+      → ((a : Option Asked) (job : Result Job NotRun) → Came job result w d → result ≡ kind → P a job) → Outcome words told result s w d → result ≡ kind → IsTold (asked_in words) told → OnJob P
+  of_job kind P not_read not_memory not_disk not_write each (inl o) is is_told = on_words o.refused P (each None (Err reasons.Words) (words_came o) is)
+  of_job kind P not_read not_memory not_disk not_write each (inr (inl o)) is is_told = absurd (ended_not _ kind _ o.ended not_memory not_write is)
+  of_job kind P not_read not_memory not_disk not_write each (inr (inr (asked, taken, inl o))) is is_told = absurd (ended_not _ kind _ o.ended not_read not_write is)
+  of_job kind P not_read not_memory not_disk not_write each (inr (inr (asked, taken, inr (inl o)))) is is_told = absurd (ended_not _ kind _ o.ended not_memory not_write is)
+  of_job kind P not_read not_memory not_disk not_write each (inr (inr (asked, taken, inr (inr o)))) is is_told = elim o.from [
+    | inl u ↦ absurd (ended_not _ kind _ u.ended not_disk not_write is)
+    | inr of ↦ on_bytes asked taken o of P is_told (each (Some asked) (job_of (Some asked) of.holds o.bytes) of.came is)
+  ]
+
+  pub script_refused : Outcome words told result s w d → result ≡ status.Script → IsTold (asked_in words) told → OnJob (λ a job. IsUnrunWith status.Script job)
+  script_refused = of_job status.Script (λ a job. IsUnrunWith status.Script job) (λ e. cc e) (λ e. cc e) (λ e. cc e) (λ e. cc e) (λ a job came is. came_unrun job result w d status.Script script_none (λ e. cc e) (λ e. cc e) (λ e. cc e) came is)
+
+  pub stopped : Outcome words told result s w d → result ≡ status.Stopped → IsTold (asked_in words) told → OnJob (λ a job. IsStoppedWith status.Stopped job)
+  stopped = of_job status.Stopped (λ a job. IsStoppedWith status.Stopped job) (λ e. cc e) (λ e. cc e) (λ e. cc e) (λ e. cc e) (λ a job came is. came_stopped job result w d status.Stopped (λ e. cc e) stopped_nor (λ e. cc e) (λ e. cc e) (λ e. cc e) came is)
+
+  pub level : Outcome words told result s w d → result ≡ status.Level → IsTold (asked_in words) told → OnJob (λ a job. IsStoppedWith status.Level job)
+  level = of_job status.Level (λ a job. IsStoppedWith status.Level job) (λ e. cc e) (λ e. cc e) (λ e. cc e) (λ e. cc e) (λ a job came is. came_stopped job result w d status.Level (λ e. cc e) level_nor (λ e. cc e) (λ e. cc e) (λ e. cc e) came is)
+
+  -- the status of a job that is not run
+  unrun : (kind : Status) → of_run kind ≡ false → kind ≢ status.ReadFault → kind ≢ status.OutOfMemory → kind ≢ status.DiskFault → kind ≢ status.WriteFault → Outcome words told result s w d → result ≡ kind →
+      ((asked_in words ≡ None) × (kind ≡ status.Words)) ⊎ ((asked : Asked) × (h : Held Mesh BadImage) × (says : (Option Declared → Result PlainScript Fault)) × (asked_in words ≡ Some asked) × IfSome told (λ areas. h ≡ held areas.a areas.b) × IsUnrunWith kind (job_by (Some asked) h says))
+  unrun kind never not_read not_memory not_disk not_write (inl o) is = inl (o.refused, sym (came_unrun _ result w d kind never not_memory not_disk not_write (words_came o) is))
+  unrun kind never not_read not_memory not_disk not_write (inr (inl o)) is = absurd (ended_not _ kind _ o.ended not_memory not_write is)
+  unrun kind never not_read not_memory not_disk not_write (inr (inr (asked, taken, inl o))) is = absurd (ended_not _ kind _ o.ended not_read not_write is)
+  unrun kind never not_read not_memory not_disk not_write (inr (inr (asked, taken, inr (inl o)))) is = absurd (ended_not _ kind _ o.ended not_memory not_write is)
+  unrun kind never not_read not_memory not_disk not_write (inr (inr (asked, taken, inr (inr o)))) is = elim o.from [
+    | inl u ↦ absurd (ended_not _ kind _ u.ended not_disk not_write is)
+    | inr of ↦ inr (asked, of.holds, (λ given. script_of given o.bytes), taken, of.known, came_unrun _ result w d kind never not_memory not_disk not_write of.came is)
+  ]
+
+  pub words_refused : Outcome words told result s w d → result ≡ status.Words → asked_in words ≡ None
+  words_refused o is = elim (unrun status.Words words_none (λ e. cc e) (λ e. cc e) (λ e. cc e) (λ e. cc e) o is) [
+    | inl e ↦ e.0
+    | inr u ↦ absurd (taken_words u.0 u.2 (u.0).start u.1 u.5)
+  ]
+
+  pub no_checkpoint : Outcome words told result s w d → result ≡ status.NoCheckpoint → IsRestart (asked_in words) × IfSome told (λ areas. held areas.a areas.b ≡ Nothing)
+  no_checkpoint o is = elim (unrun status.NoCheckpoint checkpoint_none (λ e. cc e) (λ e. cc e) (λ e. cc e) (λ e. cc e) o is) [
+    | inl e ↦ absurd (cc e.1)
+    | inr u ↦ (let none = nothing_held u.0 u.2 (u.0).start u.1 u.5 in (is_restart u.3 none.0, carried told _ _ u.4 (λ areas h. sym h ∙ none.1)))
+  ]
+
+  pub damaged : Outcome words told result s w d → result ≡ status.Damaged → IsRestart (asked_in words) × IfSome told (λ areas. IsDamagedIn (held areas.a areas.b))
+  damaged o is = elim (unrun status.Damaged damaged_none (λ e. cc e) (λ e. cc e) (λ e. cc e) (λ e. cc e) o is) [
+    | inl e ↦ absurd (cc e.1)
+    | inr u ↦ (let bad = damaged_held u.0 u.2 (u.0).start u.1 u.5 in (is_restart u.3 bad.0, carried told _ _ u.4 (λ areas h. subst IsDamagedIn h bad.1)))
+  ]
+
+  pub words_alone : Outcome words told result s w d → asked_in words ≡ None → (result ≡ status.Words) ⊎ ((result ≡ status.WriteFault) ⊎ (result ≡ status.OutOfMemory))
+  words_alone (inl o) none = elim o.ended [ inl e ↦ inl e.0 | inr e ↦ inr (inl e.0) ]
+  words_alone (inr (inl o)) none = elim o.ended [ inl e ↦ inr (inr e.0) | inr e ↦ inr (inl e.0) ]
+  words_alone (inr (inr (asked, taken, came))) none = absurd (none_asked none taken)
+
+  pub read_fault : Outcome words told result s w d → result ≡ status.ReadFault → Unread
+  read_fault (inl o) is = absurd (came_never _ result w d status.ReadFault read_none read_nor (λ e. cc e) (λ e. cc e) (λ e. cc e) (words_came o) is)
+  read_fault (inr (inl o)) is = absurd (ended_not _ status.ReadFault _ o.ended (λ e. cc e) (λ e. cc e) is)
+  read_fault (inr (inr (asked, taken, inl o))) is = o.rose
+  read_fault (inr (inr (asked, taken, inr (inl o)))) is = absurd (ended_not _ status.ReadFault _ o.ended (λ e. cc e) (λ e. cc e) is)
+  read_fault (inr (inr (asked, taken, inr (inr o)))) is = elim o.from [
+    | inl u ↦ absurd (ended_not _ status.ReadFault _ u.ended (λ e. cc e) (λ e. cc e) is)
+    | inr of ↦ absurd (came_never _ result w d status.ReadFault read_none read_nor (λ e. cc e) (λ e. cc e) (λ e. cc e) of.came is)
+  ]
+
+  pub read_fault_told : Outcome words told result s w d → s.faults < s.new_faults → ¬ Rose w.faults w.new_faults → (result ≡ status.ReadFault) × Takes w.before read_line w.after
+  read_fault_told (inl o) more calm = let same = o.calm in absurd (omega arith)
+  read_fault_told (inr (inl o)) more calm = let same = o.calm in absurd (omega arith)
+  read_fault_told (inr (inr (asked, taken, inl o))) more calm = ended_whole _ _ o.ended calm
+  read_fault_told (inr (inr (asked, taken, inr (inl o)))) more calm = let same = o.calm in absurd (omega arith)
+  read_fault_told (inr (inr (asked, taken, inr (inr o)))) more calm = let same = o.calm in absurd (omega arith)
+
+  pub disk_fault : Outcome words told result s w d → result ≡ status.DiskFault → d.rose
+  disk_fault (inl o) is = came_broken _ result w d (words_came o) is
+  disk_fault (inr (inl o)) is = absurd (ended_not _ status.DiskFault _ o.ended (λ e. cc e) (λ e. cc e) is)
+  disk_fault (inr (inr (asked, taken, inl o))) is = absurd (ended_not _ status.DiskFault _ o.ended (λ e. cc e) (λ e. cc e) is)
+  disk_fault (inr (inr (asked, taken, inr (inl o)))) is = absurd (ended_not _ status.DiskFault _ o.ended (λ e. cc e) (λ e. cc e) is)
+  disk_fault (inr (inr (asked, taken, inr (inr o)))) is = elim o.from [ inl u ↦ u.rose | inr of ↦ came_broken _ result w d of.came is ]
+
+  pub disk_fault_told : Outcome words told result s w d → ¬ d.calm → ¬ Rose w.faults w.new_faults → (result ≡ status.DiskFault) × (IsTold (asked_in words) told → OnJob (λ a job. TookBeforeFault a job d.untouched w.before w.after))
+  disk_fault_told (inl o) moved calm = let f = came_faulty (Err reasons.Words) result w d (words_came o) moved calm in absurd f.2
+  disk_fault_told (inr (inl o)) moved calm = absurd (moved o.disk_calm)
+  disk_fault_told (inr (inr (asked, taken, inl o))) moved calm = absurd (moved o.disk_calm)
+  disk_fault_told (inr (inr (asked, taken, inr (inl o)))) moved calm = absurd (moved o.disk_calm)
+  disk_fault_told (inr (inr (asked, taken, inr (inr o)))) moved calm = elim o.from [
+    | inl u ↦ (let e = ended_whole _ _ u.ended calm in (e.0, λ is_told. on_all (λ a job. TookBeforeFault a job d.untouched w.before w.after) (λ job. inl (is_restart taken u.restart, u.untouched, e.1))))
+    | inr of ↦ (let f = came_faulty _ result w d of.came moved calm in (f.0, λ is_told. on_bytes asked taken o of (λ a job. TookBeforeFault a job d.untouched w.before w.after) is_told (inr (f.1, f.2, f.3))))
+  ]
+
+  pub write_fault : Outcome words told result s w d → result ≡ status.WriteFault → Rose w.faults w.new_faults
+  write_fault (inl o) is = came_cut _ result w d (words_came o) is
+  write_fault (inr (inl o)) is = (ended_cut _ _ o.ended (λ e. cc e) is).rose
+  write_fault (inr (inr (asked, taken, inl o))) is = (ended_cut _ _ o.ended (λ e. cc e) is).rose
+  write_fault (inr (inr (asked, taken, inr (inl o)))) is = (ended_cut _ _ o.ended (λ e. cc e) is).rose
+  write_fault (inr (inr (asked, taken, inr (inr o)))) is = elim o.from [ inl u ↦ (ended_cut _ _ u.ended (λ e. cc e) is).rose | inr of ↦ came_cut _ result w d of.came is ]
+
   pub write_fault_told : Outcome words told result s w d → w.faults < w.new_faults → result ≡ status.WriteFault
   write_fault_told (inl o) more = came_whole _ result w d (words_came o) more
   write_fault_told (inr (inl o)) more = ended_told _ _ o.ended more
-  write_fault_told (inr (inr (inl o))) more = ended_told _ _ o.ended more
-  write_fault_told (inr (inr (inr o))) more = elim o.from [ inl u ↦ ended_told _ _ u.ended more | inr of ↦ came_whole _ result w d of.came more ]
+  write_fault_told (inr (inr (asked, taken, inl o))) more = ended_told _ _ o.ended more
+  write_fault_told (inr (inr (asked, taken, inr (inl o)))) more = ended_told _ _ o.ended more
+  write_fault_told (inr (inr (asked, taken, inr (inr o)))) more = elim o.from [ inl u ↦ ended_told _ _ u.ended more | inr of ↦ came_whole _ result w d of.came more ]
 
-  pub complete : Outcome words told result s w d → IsTold (start_in words) told → ¬ Rose s.faults s.new_faults → ¬ d.rose → ¬ Rose w.faults w.new_faults →
-      IfSome s.before (λ bytes. IsAccepted (job_of (start_in words) (held_in told) bytes) → (result ≡ status.Done) ⊎ (result ≡ status.OutOfMemory))
-  complete (inl o) is_told quiet firm calm = on_words o.refused (λ st job. IsAccepted job → (result ≡ status.Done) ⊎ (result ≡ status.OutOfMemory)) (came_complete _ result w d (words_came o) firm calm)
-  complete (inr (inl o)) is_told quiet firm calm = absurd (quiet o.rose)
-  complete (inr (inr (inl o))) is_told quiet firm calm = elim o.ended [
-    | inl e ↦ always s.before _ (λ all accepted. inr e.0)
-    | inr e ↦ absurd (calm e.1.rose)
-  ]
-  complete (inr (inr (inr o))) is_told quiet firm calm = elim o.from [
+  pub complete : Outcome words told result s w d → IsTold (asked_in words) told → ¬ Unread → ¬ d.rose → ¬ Rose w.faults w.new_faults → OnJob (λ a job. IsAccepted job → (result ≡ status.Done) ⊎ (result ≡ status.OutOfMemory))
+  complete (inl o) is_told quiet firm calm = on_words o.refused (λ a job. IsAccepted job → (result ≡ status.Done) ⊎ (result ≡ status.OutOfMemory)) (came_complete _ result w d (words_came o) firm calm)
+  complete (inr (inl o)) is_told quiet firm calm = on_all (λ a job. IsAccepted job → (result ≡ status.Done) ⊎ (result ≡ status.OutOfMemory)) (λ job accepted. inr (ended_whole _ _ o.ended calm).0)
+  complete (inr (inr (asked, taken, inl o))) is_told quiet firm calm = absurd (quiet o.rose)
+  complete (inr (inr (asked, taken, inr (inl o)))) is_told quiet firm calm = on_all (λ a job. IsAccepted job → (result ≡ status.Done) ⊎ (result ≡ status.OutOfMemory)) (λ job accepted. inr (ended_whole _ _ o.ended calm).0)
+  complete (inr (inr (asked, taken, inr (inr o)))) is_told quiet firm calm = elim o.from [
     | inl u ↦ absurd (firm u.rose)
-    | inr of ↦ on_bytes o of (λ st job. IsAccepted job → (result ≡ status.Done) ⊎ (result ≡ status.OutOfMemory)) is_told (came_complete _ result w d of.came firm calm)
+    | inr of ↦ on_bytes asked taken o of (λ a job. IsAccepted job → (result ≡ status.Done) ⊎ (result ≡ status.OutOfMemory)) is_told (came_complete _ result w d of.came firm calm)
   ]
 
   -- a line that a run ends with was written in part
-  line_part : (line : List ℕ) → IsSome (start_in words) → WrotePart line w → ((job : Result Job NotRun) → (Rose s.faults s.new_faults × (line ≡ read_line)) ⊎ MayEnd (start_in words) job d.rose line) →
-      IfSome s.before (λ bytes. TookPart (start_in words) (job_of (start_in words) (held_in told) bytes) (Rose s.faults s.new_faults) d.rose w.before w.after)
-  line_part line taken e may = on_all (λ st job. TookPart st job (Rose s.faults s.new_faults) d.rose w.before w.after) (λ job. (line, inr (taken, may job), e.takes))
+  line_part : (line : List ℕ) → WrotePart line w → ((job : Result Job NotRun) → (ReadsSource (asked_in words) × Unread × (line ≡ read_line)) ⊎ MayEnd (asked_in words) job d.rose line) → OnJob (λ a job. TookPart a job Unread d.rose w.before w.after)
+  line_part line e may = on_all (λ a job. TookPart a job Unread d.rose w.before w.after) (λ job. (line, inr (may job), e.takes))
 
-  after_no_text : (job : Result Job NotRun) (line : List ℕ) → line ≡ first_texts job 0 ++ line
-  after_no_text (Ok j) line = refl
-  after_no_text (Err reason) line = refl
+  memory_part : WrotePart memory_line w → OnJob (λ a job. TookPart a job Unread d.rose w.before w.after)
+  memory_part e = line_part memory_line e (λ job. inr (inl (0, at_first job, after_no_text job memory_line)))
 
-  pub part : Outcome words told result s w d → result ≡ status.WriteFault → IsTold (start_in words) told → IfSome s.before (λ bytes. TookPart (start_in words) (job_of (start_in words) (held_in told) bytes) (Rose s.faults s.new_faults) d.rose w.before w.after)
-  part (inl o) is is_told = elim o.ended [
-    | inl e ↦ absurd (cc (sym is ∙ e.0))
-    | inr e ↦ on_words o.refused (λ st job. TookPart st job (Rose s.faults s.new_faults) d.rose w.before w.after) (words_line, inl refl, e.1.takes)
-  ]
-  part (inr (inl o)) is is_told = elim o.ended [
-    | inl e ↦ absurd (cc (sym is ∙ e.0))
-    | inr e ↦ line_part read_line o.taken e.1 (λ job. inl (o.rose, refl))
-  ]
-  part (inr (inr (inl o))) is is_told = elim o.ended [
-    | inl e ↦ absurd (cc (sym is ∙ e.0))
-    | inr e ↦ line_part memory_line o.taken e.1 (λ job. inr (inl (0, at_first job, after_no_text job memory_line)))
-  ]
-  part (inr (inr (inr o))) is is_told = elim o.from [
-    | inl u ↦ elim u.ended [
-      | inl e ↦ absurd (cc (sym is ∙ e.0))
-      | inr e ↦ line_part disk_line (taken_some o) e.1 (λ job. inr (inr (u.rose, inl (o.taken ∙ u.restart, refl))))
-    ]
-    | inr of ↦ on_bytes o of (λ st job. TookPart st job (Rose s.faults s.new_faults) d.rose w.before w.after) is_told (taken_part _ (came_part _ result w d (Some o.start) of.came is))
-  ]
-    where
-      taken_part : {start : Start} (job : Result Job NotRun) → (text : List ℕ) × ((text ≡ (answer_of job).text) ⊎ MayEnd (Some start) job d.rose text) × TakesPrefix w.before text w.after → TookPart (Some start) job (Rose s.faults s.new_faults) d.rose w.before w.after
-      taken_part job (text, inl e, takes) = (text, inl e, takes)
-      taken_part job (text, inr end, takes) = (text, inr (refl, inr end), takes)
+  taken_part : (asked : Option Asked) (job : Result Job NotRun) → (text : List ℕ) × ((text ≡ (answer_of job).text) ⊎ MayEnd asked job d.rose text) × TakesPrefix w.before text w.after → TookPart asked job Unread d.rose w.before w.after
+  taken_part asked job (text, inl e, takes) = (text, inl e, takes)
+  taken_part asked job (text, inr end, takes) = (text, inr (inr end), takes)
 
-  pub memory : Outcome words told result s w d → result ≡ status.OutOfMemory → IsTold (start_in words) told → IfSome s.before (λ bytes. TookBeforeMemory (job_of (start_in words) (held_in told) bytes) w.before w.after)
-  memory (inl o) is is_told = on_words o.refused (λ st job. TookBeforeMemory job w.before w.after) (came_starved _ result w d (words_came o) is)
-  memory (inr (inl o)) is is_told = elim o.ended [ inl e ↦ absurd (cc (sym is ∙ e.0)) | inr e ↦ absurd (cc (sym is ∙ e.0)) ]
-  memory (inr (inr (inl o))) is is_told = elim o.ended [
-    | inl e ↦ on_all (λ st job. TookBeforeMemory job w.before w.after) (λ job. (0, at_first job, subst (λ t. Takes w.before t w.after) (after_no_text job memory_line) e.1.takes))
-    | inr e ↦ absurd (cc (sym is ∙ e.0))
-  ]
-  memory (inr (inr (inr o))) is is_told = elim o.from [
-    | inl u ↦ elim u.ended [ inl e ↦ absurd (cc (sym is ∙ e.0)) | inr e ↦ absurd (cc (sym is ∙ e.0)) ]
-    | inr of ↦ on_bytes o of (λ st job. TookBeforeMemory job w.before w.after) is_told (came_starved _ result w d of.came is)
+  pub part : Outcome words told result s w d → result ≡ status.WriteFault → IsTold (asked_in words) told → OnJob (λ a job. TookPart a job Unread d.rose w.before w.after)
+  part (inl o) is is_told = on_words o.refused (λ a job. TookPart a job Unread d.rose w.before w.after) (words_line, inl refl, (ended_cut _ _ o.ended (λ e. cc e) is).takes)
+  part (inr (inl o)) is is_told = memory_part (ended_cut _ _ o.ended (λ e. cc e) is)
+  part (inr (inr (asked, taken, inl o))) is is_told = line_part read_line (ended_cut _ _ o.ended (λ e. cc e) is) (λ job. inl (does_read taken o.reads, o.rose, refl))
+  part (inr (inr (asked, taken, inr (inl o)))) is is_told = memory_part (ended_cut _ _ o.ended (λ e. cc e) is)
+  part (inr (inr (asked, taken, inr (inr o)))) is is_told = elim o.from [
+    | inl u ↦ line_part disk_line (ended_cut _ _ u.ended (λ e. cc e) is) (λ job. inr (inr (u.rose, inl (is_restart taken u.restart, refl))))
+    | inr of ↦ on_bytes asked taken o of (λ a job. TookPart a job Unread d.rose w.before w.after) is_told (taken_part (Some asked) _ (came_part _ result w d (Some asked) of.came is))
   ]
 
-  pub read : Outcome words told result s w d → IsSome (start_in words) → ¬ Rose s.faults s.new_faults → IfSome s.before (λ bytes. s.after ≡ Some (drop most_read bytes))
-  read (inl o) some quiet = absurd (no_start o.refused some)
-  read (inr (inl o)) some quiet = absurd (quiet o.rose)
-  read (inr (inr (inl o))) some quiet = o.left
-  read (inr (inr (inr o))) some quiet = carried s.before _ _ o.left (λ all h. h.1)
+  memory_alone : Ended status.OutOfMemory memory_line result w → result ≡ status.OutOfMemory → OnJob (λ a job. TookBeforeMemory job w.before w.after)
+  memory_alone (inl e) is = on_all (λ a job. TookBeforeMemory job w.before w.after) (λ job. (0, at_first job, subst (λ t. Takes w.before t w.after) (after_no_text job memory_line) e.1.takes))
+  memory_alone (inr e) is = absurd (cc (sym is ∙ e.0))
+
+  pub memory : Outcome words told result s w d → result ≡ status.OutOfMemory → IsTold (asked_in words) told → OnJob (λ a job. TookBeforeMemory job w.before w.after)
+  memory (inl o) is is_told = on_words o.refused (λ a job. TookBeforeMemory job w.before w.after) (came_starved _ result w d (words_came o) is)
+  memory (inr (inl o)) is is_told = memory_alone o.ended is
+  memory (inr (inr (asked, taken, inl o))) is is_told = absurd (ended_not _ status.OutOfMemory _ o.ended (λ e. cc e) (λ e. cc e) is)
+  memory (inr (inr (asked, taken, inr (inl o)))) is is_told = memory_alone o.ended is
+  memory (inr (inr (asked, taken, inr (inr o)))) is is_told = elim o.from [
+    | inl u ↦ absurd (ended_not _ status.OutOfMemory _ u.ended (λ e. cc e) (λ e. cc e) is)
+    | inr of ↦ on_bytes asked taken o of (λ a job. TookBeforeMemory job w.before w.after) is_told (came_starved _ result w d of.came is)
+  ]
+
+  -- what a script was read from has no longer its first bytes
+  first_taken : (start : Start) → ReadsAt start → IfSome s.before (λ bytes. s.after ≡ Some (left_at start bytes)) → IfSome s.before (λ bytes. s.after ≡ Some (drop most_read bytes))
+  first_taken New reads left = left
+  first_taken Restart reads left = left
+  first_taken (Sample seed) reads left = absurd reads
+
+  was_taken : {asked : Asked} → asked_in words ≡ Some asked → ReadsSource (asked_in words) → IfSome s.before (λ bytes. s.after ≡ Some (left_at asked.start bytes)) →
+      IfSome s.before (λ bytes. (s.after ≡ Some (drop most_read bytes)) ⊎ (EndsWanting result w.before w.after × (s.after ≡ s.before)))
+  was_taken {asked} taken reads left = carried s.before _ _ (first_taken asked.start (subst ReadsSource taken reads) left) (λ bytes is. inl is)
+
+  pub read : Outcome words told result s w d → ReadsSource (asked_in words) → ¬ Unread → IfSome s.before (λ bytes. (s.after ≡ Some (drop most_read bytes)) ⊎ (EndsWanting result w.before w.after × (s.after ≡ s.before)))
+  read (inl o) reads quiet = absurd (subst ReadsSource o.refused reads)
+  read (inr (inl o)) reads quiet = always s.before _ (λ bytes. inr ((ended_or _ _ o.ended, ended_between _ _ o.ended), o.same))
+  read (inr (inr (asked, taken, inl o))) reads quiet = absurd (quiet o.rose)
+  read (inr (inr (asked, taken, inr (inl o)))) reads quiet = was_taken taken reads o.left
+  read (inr (inr (asked, taken, inr (inr o)))) reads quiet = was_taken taken reads o.left
 
   -- the runs that leave the areas
-  pub untouched : Outcome words told result s w d → KeepsOff result → d.untouched
-  untouched (inl o) off = came_untouched (Err reasons.Words) result w d (words_came o) off
+  pub untouched : Outcome words told result s w d → KeepsOff result ⊎ ((s.faults < s.new_faults) ⊎ (asked_in words ≡ None)) → d.untouched
+  untouched (inl o) off = o.untouched
   untouched (inr (inl o)) off = o.untouched
-  untouched (inr (inr (inl o))) off = o.untouched
-  untouched (inr (inr (inr o))) off = elim o.from [ inl u ↦ u.untouched | inr of ↦ came_untouched _ result w d of.came off ]
-
-  Ends : Option Start → Result Job NotRun → Type 0
-  Ends st job = (k : ℕ) × EndsAfter st job k result (Rose s.faults s.new_faults) d.rose w.before w.after × (LastsAt job k d ⊎ (BeginsAt job k d ⊎ ((k ≡ 0) × d.untouched)))
-
-  more : {st : Option Start} {job : Result Job NotRun} → (k : ℕ) × EndsAfter st job k result (Rose s.faults s.new_faults) d.rose w.before w.after × (LastsAt job k d ⊎ BeginsAt job k d) → Ends st job
-  unfolding Ends
-  more (k, at, inl lasts) = (k, at, inl lasts)
-  more (k, at, inr begins) = (k, at, inr (inl begins))
+  untouched (inr (inr (asked, taken, inl o))) off = o.untouched
+  untouched (inr (inr (asked, taken, inr (inl o)))) off = o.untouched
+  untouched (inr (inr (asked, taken, inr (inr o)))) (inr (inl more)) = let same = o.calm in absurd (omega arith)
+  untouched (inr (inr (asked, taken, inr (inr o)))) (inr (inr none)) = absurd (none_asked none taken)
+  untouched (inr (inr (asked, taken, inr (inr o)))) (inl off) = elim o.from [ inl u ↦ u.untouched | inr of ↦ came_untouched _ result w d of.came off ]
 
   -- where a run ended, and what the disk went through
-  pub ends : Outcome words told result s w d → IsTold (start_in words) told →
-      IfSome s.before (λ bytes. let job = job_of (start_in words) (held_in told) bytes in (k : ℕ) × EndsAfter (start_in words) job k result (Rose s.faults s.new_faults) d.rose w.before w.after × (LastsAt job k d ⊎ (BeginsAt job k d ⊎ ((k ≡ 0) × d.untouched))))
-  unfolding Ends
-  ends (inl o) is_told = on_words o.refused Ends (more (came_ends _ result w d None (Rose s.faults s.new_faults) (words_came o)))
-  ends (inr (inl o)) is_told = elim o.ended [
-    | inl e ↦ on_all Ends (λ job. (0, inl (refl, inl e.0, o.rose, between w.before w.after 0 read_line (omega arith) e.1.takes), inr (inr (refl, o.untouched))))
-    | inr e ↦ on_all Ends (λ job. (0, inl (refl, inr e.0, o.rose, cut_line w.before w.after read_line e.1.takes), inr (inr (refl, o.untouched))))
-  ]
-  ends (inr (inr (inl o))) is_told = elim o.ended [
-    | inl e ↦ on_all Ends (λ job. (0, inr (inr (inr (inr (inl (inl e.0, at_first job, line_alone w.before w.after job memory_line (between w.before w.after 0 memory_line (omega arith) e.1.takes)))))), inr (inr (refl, o.untouched))))
-    | inr e ↦ on_all Ends (λ job. (0, inr (inr (inr (inr (inl (inr e.0, at_first job, line_alone w.before w.after job memory_line (cut_line w.before w.after memory_line e.1.takes)))))), inr (inr (refl, o.untouched))))
-  ]
-  ends (inr (inr (inr o))) is_told = elim o.from [
-    | inl u ↦ elim u.ended [
-      | inl e ↦ on_all Ends (λ job. (0, inr (inl (refl, o.taken ∙ u.restart, inl e.0, u.rose, between w.before w.after 0 disk_line (omega arith) e.1.takes)), inr (inr (refl, u.untouched))))
-      | inr e ↦ on_all Ends (λ job. (0, inr (inl (refl, o.taken ∙ u.restart, inr e.0, u.rose, cut_line w.before w.after disk_line e.1.takes)), inr (inr (refl, u.untouched))))
-    ]
-    | inr of ↦ on_bytes o of Ends is_told (more (came_ends _ result w d (Some o.start) (Rose s.faults s.new_faults) of.came))
+  abbrev pub Ends : Option Asked → Result Job NotRun → Type 0
+  Ends asked job = (k : ℕ) × EndsAfter asked job k result Unread d.rose d.untouched w.before w.after × (LastsAt job k d ⊎ (BeginsAt job k d ⊎ ((k ≡ 0) × d.untouched)))
+
+  more : (asked : Option Asked) {job : Result Job NotRun} → (k : ℕ) × EndsAfter asked job k result Unread d.rose d.untouched w.before w.after × (LastsAt job k d ⊎ BeginsAt job k d) → Ends asked job
+  more asked (k, at, inl lasts) = (k, at, inl lasts)
+  more asked (k, at, inr begins) = (k, at, inr (inl begins))
+
+  memory_ends : Ended status.OutOfMemory memory_line result w → d.untouched → OnJob Ends
+  memory_ends e untouched = on_all Ends (λ job. (0, inr (inr (inr (inr (inl (ended_or _ _ e, at_first job, line_alone w.before w.after job memory_line (ended_between _ _ e)))))), inr (inr (refl, untouched))))
+
+  pub ends : Outcome words told result s w d → IsTold (asked_in words) told → OnJob Ends
+  ends (inl o) is_told = on_words o.refused Ends (more None (came_ends _ result w d None Unread (words_came o)))
+  ends (inr (inl o)) is_told = memory_ends o.ended o.untouched
+  ends (inr (inr (asked, taken, inl o))) is_told = on_all Ends (λ job. (0, inl (refl, ended_or _ _ o.ended, o.rose, o.untouched, ended_between _ _ o.ended), inr (inr (refl, o.untouched))))
+  ends (inr (inr (asked, taken, inr (inl o)))) is_told = memory_ends o.ended o.untouched
+  ends (inr (inr (asked, taken, inr (inr o)))) is_told = elim o.from [
+    | inl u ↦ on_all Ends (λ job. (0, inr (inl (refl, is_restart taken u.restart, ended_or _ _ u.ended, u.rose, u.untouched, ended_between _ _ u.ended)), inr (inr (refl, u.untouched))))
+    | inr of ↦ on_bytes asked taken o of Ends is_told (more (Some asked) (came_ends _ result w d (Some asked) Unread of.came))
   ]

@@ -1,7 +1,7 @@
 -- What comes of a job, by how its run ended.
 use Rattle.std.proofs.lemmas.Bool.{le-ltb, lt-ltb}
-use Rattle.std.proofs.Common.{◌≡◌, ℕ, zero, suc, ◌∷◌, ◌+◌, ◌<◌, ◌≤◌, true, false, ◌++◌, List, [], Option, Some, None, Result, Ok, Err, length, take, inl, inr, refl, sym, ap, subst, ◌∙◌, arith, append-nil, length-append}
-use Rattle.std.specs.Prelude.{if◌then◌else◌, nat_lt}
+use Rattle.std.proofs.Common.{◌≡◌, ℕ, zero, suc, ◌∷◌, ◌+◌, ◌<◌, ◌≤◌, ◌++◌, List, [], Option, Some, None, Result, Ok, Err, length, take, inl, inr, refl, sym, ap, subst, ◌∙◌, arith, append-nil, length-append}
+use Rattle.std.specs.Prelude.{if◌then◌else◌}
 use Rattle.mesh_model.specs.declared.language.script.Line.{Line}
 use Rattle.mesh_model.specs.declared.run.stops.Refusal as stops
 use Rattle.mesh_model.specs.Run.StopTexts.{stop_line}
@@ -15,10 +15,10 @@ use Rattle.outside_io.proofs.Moving.{takes_more}
 use Rattle.amr_program.specs.declared.status.Status.{Status}
 use Rattle.amr_program.specs.declared.status.Status.TheVariants as status
 use Rattle.amr_program.specs.declared.not_run.NotRun.{NotRun}
-use Rattle.amr_program.specs.Answer.{Job, MayFail, MayWant, answer_of, count_in, done_in, ending, first_texts, status_of, status_unrun, stop_in}
-use Rattle.amr_program.specs.Lasting.{DiskRun, HasLine, IsCut, TookBetween, reach}
+use Rattle.amr_program.specs.Answer.{Job, MayFail, MayWant, answer_of, count_in, done_in, ending, first_texts, status_of, stop_in}
+use Rattle.amr_program.specs.Lasting.{DiskRun, HasLine, TookBetween, reach}
 use Rattle.amr_program.specs.Lines.{disk_line, memory_line, not_run_line}
-use Rattle.amr_program.specs.Outcome.{Answered, BeginsAt, Broken, BrokeOff, Came, Cut, Ended, LastsAt, RefusedWith, RunStops, Starved, Stopped, WereBegun, WereDone}
+use Rattle.amr_program.specs.Outcome.{BeginsAt, BrokeOff, Came, Ended, LastsAt, RefusedWith, RunStops, Stopped, WereDone}
 use Rattle.std.proofs.Math.Seq.{take-length}
 use Rattle.std.proofs.lemmas.List.{take-append-le}
 use Rattle.amr_program.proofs.Commands.{cut_line, cut_within, wider}

@@ -1,42 +1,25 @@
 -- The commands of a run, one after the other.
-use Rattle.std.proofs.lemmas.Bool.{and_parts, cases_Bool, cases_lt, lt-ltb, le-ltb}
-use Rattle.std.specs.List.{list_all}
-use Rattle.std.proofs.lemmas.List.Elements.{All-cons, All-nil}
-use Rattle.std.proofs.Common.{◌≡◌, ◌≢◌, ℕ, ◌≤◌, is_none, Bool, true, false, if◌then◌else◌, All, zero, suc, ◌+◌, ◌-◌, ◌<◌, ◌++◌, List, [], ◌∷◌, Option, Some, None, Result, Ok, Err, IfSome, length, get_or, take, drop, inl, inr, ◌⊎◌, refl, sym, ap, subst, ◌∙◌, arith, append_assoc, append-nil, length-append}
-use Rattle.std.specs.Prelude.{nat_lt, cond}
+use Rattle.std.proofs.Common.{◌≡◌, ◌≢◌, ℕ, ◌≤◌, zero, suc, ◌+◌, ◌<◌, ◌++◌, List, [], ◌∷◌, Option, Some, None, IfSome, length, get_or, take, drop, refl, sym, ap, subst, ◌∙◌, arith, append_assoc, append-nil, length-append}
 use Rattle.std.proofs.Math.Seq.{take-append-add, take-length, take-suc}
 use Rattle.std.proofs.lemmas.List.{length-take-le, take-append-le}
-use Rattle.script_lang.proofs.Scripts.{script_fits, script_in_limits}
 use Rattle.mesh_model.specs.declared.language.script.Command.{Command}
 use Rattle.mesh_model.specs.declared.language.script.Command.TheVariants as commands
 use Rattle.mesh_model.specs.declared.run.stops.Refusal as stops
-use Rattle.mesh_model.specs.Language.Grammar.{script_of, Fault}
-use Rattle.mesh_model.specs.Run.StopTexts.{stop_line}
 use Rattle.mesh_model.specs.Run.Stops.{refusal}
-use Rattle.mesh_model.specs.Fields.Valid.{ValidMesh}
-use Rattle.mesh_model.specs.declared.language.script.Declared.{Declared}
 use Rattle.mesh_model.specs.declared.language.script.Line.{Line}
 use Rattle.outside_io.specs.Areas.{Areas}
 use Rattle.amr_engine.specs.declared.cause.StoppedBy.{StoppedBy}
 use Rattle.amr_engine.specs.declared.cause.StoppedBy.TheVariants as by
 use Rattle.amr_engine.specs.Saving.{CountsFault, HasSaved, StaysWhole}
-use Rattle.amr_engine.specs.Stopping.{Leaves, MayStop, Written, Wrote, WrotePart}
-use Rattle.amr_engine.specs.Built.{IsBuiltLine, is_built, is_built_command}
-use Rattle.mesh_model.specs.Language.Commands.{InLimits, IsLineOf, PlainScript}
+use Rattle.amr_engine.specs.Stopping.{Leaves, MayStop, WrotePart}
 use Rattle.mesh_model.specs.Fields.Plain.{Mesh}
 use Rattle.outside_io.specs.Moved.{Rose, Takes, TakesPrefix}
 use Rattle.outside_io.proofs.Moving.{takes_more}
-use Rattle.amr_program.specs.declared.status.Status.{Status}
-use Rattle.amr_program.specs.declared.status.Status.TheVariants as status
-use Rattle.amr_program.specs.declared.not_run.NotRun.{NotRun}
-use Rattle.amr_program.specs.declared.not_run.NotRun.TheVariants as reasons
-use Rattle.amr_program.specs.Answer.{AlongRun, Job, MayFail, MayWant, NeedsAfter, answer_of, count_in, done_in, ending, first_texts, job_from, status_of, stop_in}
-use Rattle.amr_program.specs.Lasting.{DiskRun, HasLine, LeavesLastTwo, IsCut, TookBetween, disk_run, reach}
-use Rattle.amr_program.specs.Lines.{disk_line, memory_line, not_run_line}
-use Rattle.amr_program.specs.Outcome.{BeginsAt, Broken, BrokeOff, Came, Cut, Ended, LastsAt, RefusedWith, RunStops, Starved, Stopped, WereBegun, WereDone}
+use Rattle.amr_program.specs.Lasting.{DiskRun, LeavesLastTwo, TookBetween, disk_run}
+use Rattle.amr_program.specs.Outcome.{BrokeOff, RunStops, WereBegun, WereDone}
 use Rattle.amr_engine.proofs.Saved.{nothing_saved, saves_mesh, stays_whole}
 use Rattle.amr_program.proofs.Keeping.{more_saved, more_stay, one_begun}
-use Rattle.mesh_model.specs.Run.Runs.{AtEachCommand, TheDisk, TheMemory, TheSink, checkpoints, declared_in, done, first_mesh, mesh_after, mesh_after_all, needs, saved_by, stop, text_of, texts}
+use Rattle.mesh_model.specs.Run.Runs.{TheDisk, checkpoints, done, mesh_after, mesh_after_all, needs, saved_by, stop, text_of, texts}
 
 -- ---- commands after others
 

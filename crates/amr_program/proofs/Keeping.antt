@@ -2,8 +2,8 @@
 use Rattle.std.proofs.Common.{◌≡◌, ◌⊎◌, inl, inr, ℕ, zero, suc, ◌+◌, ◌-◌, ◌≤◌, List, [], ◌∷◌, ◌++◌, length, length-append, refl, sym, ap, subst, ◌∙◌, arith}
 use Rattle.std.specs.Prelude.{Option}
 use Rattle.outside_io.specs.Areas.{Areas}
-use Rattle.outside_io.specs.Crash.{LeavesOnly, Reads, Rests}
-use Rattle.outside_io.proofs.Moments.{joined, reads_on, started, still_rests, weaker}
+use Rattle.outside_io.specs.Crash.{Reads, Rests}
+use Rattle.outside_io.proofs.Moments.{joined, started, still_rests, weaker}
 use Rattle.check_disk.specs.Images.{images}
 use Rattle.check_disk.specs.Stages.{IsStage, stage}
 use Rattle.check_disk.proofs.RunStages.{whole_stage}

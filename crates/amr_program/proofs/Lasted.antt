@@ -1,5 +1,5 @@
 -- What a crash leaves of a run, by what its parts did to the disk.
-use Rattle.std.proofs.Common.{◌≡◌, ◌⊎◌, inl, inr, ℕ, ◌+◌, ◌-◌, ◌≤◌, List, [], ◌++◌, length, take, drop, Option, Some, None, Result, Ok, Err, refl, sym, ap, subst, ◌∙◌, arith}
+use Rattle.std.proofs.Common.{◌≡◌, ◌⊎◌, inl, inr, ℕ, ◌+◌, ◌≤◌, List, [], ◌++◌, length, take, drop, Option, Some, None, Result, Ok, Err, refl, sym, ap, subst, ◌∙◌, arith}
 use Rattle.std.proofs.lemmas.List.{take-append-drop}
 use Rattle.outside_io.specs.Areas.{Areas}
 use Rattle.outside_io.specs.Crash.{Reads, Rests}
@@ -14,9 +14,10 @@ use Rattle.mesh_model.specs.declared.images.BadImage.{BadImage}
 use Rattle.mesh_model.specs.declared.language.script.Line.{Line}
 use Rattle.amr_engine.specs.Saving.{HasSaved, StaysWhole}
 use Rattle.amr_program.specs.declared.not_run.NotRun.{NotRun}
+use Rattle.amr_program.specs.declared.words.Asked.{Asked}
 use Rattle.amr_program.specs.declared.words.Start.{Start}
-use Rattle.amr_program.specs.declared.words.Start.TheVariants.{New, Restart}
-use Rattle.amr_program.specs.Answer.{IsTold, Job, done_in, saved_by_then, saved_in}
+use Rattle.amr_program.specs.declared.words.Start.TheVariants.{New, Restart, Sample}
+use Rattle.amr_program.specs.Answer.{IsTold, IsToldAt, Job, done_in, saved_by_then, saved_in}
 use Rattle.amr_program.specs.Lasting.{Lasts, LeavesLastTwo, disk_run}
 use Rattle.amr_program.specs.Outcome.{BeginsAt, LastsAt}
 use Rattle.amr_program.proofs.Commands.{checkpoints_append}
@@ -25,10 +26,14 @@ use Rattle.amr_program.proofs.Keeping.{begun_after, saved_after, stage_first, st
 use Rattle.outside_io.proofs.Moments.{reads_on}
 
 -- a disk that tells its areas tells of a restart
-pub told_some : (start : Option Start) (areas : Areas) → IsTold start (Some areas)
+told_at : (start : Start) (areas : Areas) → IsToldAt start (Some areas)
+told_at New areas = tt
+told_at Restart areas = refl
+told_at (Sample seed) areas = tt
+
+pub told_some : (asked : Option Asked) (areas : Areas) → IsTold asked (Some areas)
 told_some None areas = tt
-told_some (Some New) areas = tt
-told_some (Some Restart) areas = refl
+told_some (Some asked) areas = told_at asked.start areas
 
 -- the checkpoints of the first lines, and those of the others
 split : (m : Mesh) (lines : List Line) (k : ℕ) → checkpoints m lines ≡ checkpoints m (take k lines) ++ checkpoints (mesh_after_all m (take k lines)) (drop k lines)

@@ -1,37 +1,37 @@
 -- What comes of the parts of a run: of a script that was read, and of what keeps one from being run.
-use Rattle.std.proofs.Common.{◌≡◌, ◌≢◌, take, ◌⊎◌, inl, inr, ℕ, Bool, true, false, if◌then◌else◌, All, List, [], ◌∷◌, Option, Some, None, IfSome, Result, Ok, Err, refl, sym, ap, subst, ◌∙◌}
+use Rattle.std.proofs.Common.{◌≡◌, ◌≢◌, ◌&&◌, ◌⊎◌, inl, inr, ℕ, Bool, true, false, if◌then◌else◌, All, List, [], ◌∷◌, Option, Some, None, IfSome, Result, Ok, Err, refl, sym, ap, subst, ◌∙◌}
 use Rattle.std.specs.List.{list_all}
 use Rattle.std.proofs.lemmas.Bool.{and_parts}
 use Rattle.std.proofs.lemmas.List.Elements.{All-cons, All-nil}
-use Rattle.std.specs.Prelude.{option_copied}
+use Rattle.std.specs.Prelude.{nat_le, option_copied}
 use denote.Ref.{Bor}
 use Rattle.outside_io.specs.Areas.{Areas}
 use Rattle.check_format.specs.ReadImages.{IsRead, stored_in}
 use Rattle.check_format.specs.declared.reading.images.Image.{Image}
-use Rattle.check_format.proofs.Final.{images_are_read, read_is_image}
+use Rattle.check_format.proofs.Final.{read_is_image}
 use Rattle.mesh_model.specs.Fields.Plain.{Mesh}
 use Rattle.mesh_model.specs.Fields.Valid.{ValidMesh}
 use Rattle.mesh_model.specs.Geometry.Limits.{IsShape}
 use Rattle.mesh_model.specs.Images.Held.{Held, held}
 use Rattle.mesh_model.specs.declared.images.BadImage.{BadImage}
 use Rattle.mesh_model.specs.Images.Reading.{NamesFit}
-use Rattle.mesh_model.specs.Language.Commands.{InLimits, IsLineOf, PlainScript}
+use Rattle.mesh_model.specs.Language.Commands.{InLimits, PlainScript}
 use Rattle.mesh_model.specs.Language.Grammar.{Fault, script_of}
 use Rattle.mesh_model.specs.Run.Runs.{declared_in, first_mesh}
 use Rattle.mesh_model.specs.declared.language.script.Declared.{Declared}
 use Rattle.mesh_model.specs.declared.language.script.Line.{Line}
 use Rattle.amr_engine.specs.Built.{IsBuiltLine, is_built, is_built_command}
 use Rattle.amr_engine.specs.Stopping.{Written}
-use Rattle.script_lang.proofs.Scripts.{script_keeps}
 use Rattle.amr_program.specs.declared.status.Status.{Status}
 use Rattle.amr_program.specs.declared.status.Status.TheVariants as status
 use Rattle.amr_program.specs.declared.not_run.NotRun.{NotRun}
 use Rattle.amr_program.specs.declared.not_run.NotRun.TheVariants as reasons
+use Rattle.amr_program.specs.declared.words.Asked.{Asked}
 use Rattle.amr_program.specs.declared.words.Start.{Start}
-use Rattle.amr_program.specs.declared.words.Start.TheVariants.{New, Restart}
+use Rattle.amr_program.specs.declared.words.Start.TheVariants.{New, Restart, Sample}
 use Rattle.amr_program.specs.declared.origin.Origin.{Origin}
 use Rattle.amr_program.specs.declared.origin.Origin.TheVariants as origins
-use Rattle.amr_program.specs.Answer.{Job, SavesNothing, held_in, job_by, job_from, job_of, most_read, restarted, status_unrun}
+use Rattle.amr_program.specs.Answer.{IsRestart, Job, SavesNothing, held_in, job_at, job_from, job_of, restarted, script_at, script_by, status_unrun}
 use Rattle.amr_program.specs.Lasting.{DiskRun, disk_run}
 use Rattle.amr_program.specs.Lines.{memory_line, not_run_line, words_line}
 use Rattle.amr_program.specs.Origins.{CanBegin, begin_by, given_by, mesh_from, mesh_in}
@@ -49,9 +49,9 @@ said reason is s line result w e status text ended =
 
 -- ---- what a built script is
 
-pub built_lines : (s : PlainScript) → is_built s 1 1 ≡ true → All IsBuiltLine s.lines
+pub built_lines : (s : PlainScript) (ranks workers : ℕ) → is_built s ranks workers ≡ true → All IsBuiltLine s.lines
 unfolding is_built
-built_lines s h = each s.lines (and_parts true _ h).1
+built_lines s ranks workers h = each s.lines (and_parts (nat_le ranks 1 && nat_le workers 1) _ h).1
   where
     each : (lines : List Line) → list_all (λ line. is_built_command line.command) lines ≡ true → All IsBuiltLine lines
     each [] all = All-nil IsBuiltLine
@@ -80,37 +80,37 @@ shape_fits (origins.Image im) can = (read_is_valid im can).grid.shape
 
 -- ---- what a script that was read comes to
 
-module _ (im : Option Image) (bytes : List ℕ) (given : Option Declared) (is : given ≡ given_by im) where
-  faulty_job : (f : Fault) → script_of given bytes ≡ Err f → job_from (begin_by im) (script_of (given_by im) bytes) ≡ Err (reasons.Fault f.line f.reason)
-  faulty_job f e = ap (λ x. job_from (begin_by im) (script_of x bytes)) (sym is) ∙ ap (job_from (begin_by im)) e
+module _ (asked : Asked) (im : Option Image) (bytes : List ℕ) (given : Option Declared) (is : given ≡ given_by im) where
+  faulty_job : (f : Fault) → script_of given bytes ≡ Err f → job_from asked (begin_by im) (script_of (given_by im) bytes) ≡ Err (reasons.Fault f.line f.reason)
+  faulty_job f e = ap (λ x. job_from asked (begin_by im) (script_of x bytes)) (sym is) ∙ ap (job_from asked (begin_by im)) e
 
-  job_built : (s : PlainScript) (b : Bool) → script_of given bytes ≡ Ok s → is_built s 1 1 ≡ b →
-      job_from (begin_by im) (script_of (given_by im) bytes) ≡ (if b then Ok (record { mesh = begin_by im s; lines = s.lines }) else Err reasons.NotBuilt)
+  job_built : (s : PlainScript) (b : Bool) → script_of given bytes ≡ Ok s → is_built s asked.ranks asked.workers ≡ b →
+      job_from asked (begin_by im) (script_of (given_by im) bytes) ≡ (if b then Ok (record { mesh = begin_by im s; lines = s.lines }) else Err reasons.NotBuilt)
   job_built s b e built =
       let made : Bool → Result Job NotRun = λ x. if x then Ok (record { mesh = begin_by im s; lines = s.lines }) else Err reasons.NotBuilt in
-      ap (λ x. job_from (begin_by im) (script_of x bytes)) (sym is) ∙ ap (job_from (begin_by im)) e ∙ ap made built
+      ap (λ x. job_from asked (begin_by im) (script_of x bytes)) (sym is) ∙ ap (job_from asked (begin_by im)) e ∙ ap made built
 
   -- a job that is run, from where it begins
-  pub job_run : (s : PlainScript) (o : Origin) (lines : List Line) → script_of given bytes ≡ Ok s → is_built s 1 1 ≡ true → begin_by im s ≡ mesh_from o → lines ≡ s.lines →
-      job_from (begin_by im) (script_of (given_by im) bytes) ≡ Ok (record { mesh = mesh_from o; lines = lines })
+  pub job_run : (s : PlainScript) (o : Origin) (lines : List Line) → script_of given bytes ≡ Ok s → is_built s asked.ranks asked.workers ≡ true → begin_by im s ≡ mesh_from o → lines ≡ s.lines →
+      job_from asked (begin_by im) (script_of (given_by im) bytes) ≡ Ok (record { mesh = mesh_from o; lines = lines })
   job_run s o lines e built begins same =
       let run : Mesh → List Line → Result Job NotRun = λ m ls. Ok (record { mesh = m; lines = ls }) in
       job_built s true e built ∙ ap (λ m. run m s.lines) begins ∙ ap (run (mesh_from o)) (sym same)
 
-  pub job_saves : (P : Result Job NotRun → Type 0) (s : PlainScript) (o : Origin) (lines : List Line) → script_of given bytes ≡ Ok s → is_built s 1 1 ≡ true → begin_by im s ≡ mesh_from o → lines ≡ s.lines →
-      P (Ok (record { mesh = mesh_from o; lines = lines })) → P (job_from (begin_by im) (script_of (given_by im) bytes))
+  pub job_saves : (P : Result Job NotRun → Type 0) (s : PlainScript) (o : Origin) (lines : List Line) → script_of given bytes ≡ Ok s → is_built s asked.ranks asked.workers ≡ true → begin_by im s ≡ mesh_from o → lines ≡ s.lines →
+      P (Ok (record { mesh = mesh_from o; lines = lines })) → P (job_from asked (begin_by im) (script_of (given_by im) bytes))
   job_saves P s o lines e built begins same p = subst P (sym (job_run s o lines e built begins same)) p
 
   module _ {D : Type 0} (holds : D → Option Areas) (may_leave : D → Areas → Type 0) (moment : D → ℕ) (left_since : D → ℕ → Areas → Type 0) (faults : D → ℕ)
       (only_now : (disk : D) (c : Areas) → left_since disk (moment disk) c → may_leave disk c) (disk : D) where
     pub came_faulty : (f : Fault) → script_of given bytes ≡ Err f → (result : Status) (w : Written) → RefusedWith (reasons.Fault f.line f.reason) result w →
-        Came (job_from (begin_by im) (script_of (given_by im) bytes)) result w (disk_run holds may_leave moment left_since faults disk disk)
+        Came (job_from asked (begin_by im) (script_of (given_by im) bytes)) result w (disk_run holds may_leave moment left_since faults disk disk)
     came_faulty f e result w refused =
         subst (λ j. Came j result w (disk_run holds may_leave moment left_since faults disk disk)) (sym (faulty_job f e))
         (refused_came (reasons.Fault f.line f.reason) result w (disk_run holds may_leave moment left_since faults disk disk) refl (not_touched holds may_leave moment left_since only_now disk) refused)
 
-    pub came_unbuilt : (s : PlainScript) → script_of given bytes ≡ Ok s → is_built s 1 1 ≡ false → (result : Status) (w : Written) → RefusedWith reasons.NotBuilt result w →
-        Came (job_from (begin_by im) (script_of (given_by im) bytes)) result w (disk_run holds may_leave moment left_since faults disk disk)
+    pub came_unbuilt : (s : PlainScript) → script_of given bytes ≡ Ok s → is_built s asked.ranks asked.workers ≡ false → (result : Status) (w : Written) → RefusedWith reasons.NotBuilt result w →
+        Came (job_from asked (begin_by im) (script_of (given_by im) bytes)) result w (disk_run holds may_leave moment left_since faults disk disk)
     came_unbuilt s e built result w refused =
         subst (λ j. Came j result w (disk_run holds may_leave moment left_since faults disk disk)) (sym (job_built s false e built))
         (refused_came reasons.NotBuilt result w (disk_run holds may_leave moment left_since faults disk disk) refl (not_touched holds may_leave moment left_since only_now disk) refused)
@@ -125,7 +125,11 @@ module _ {D : Type 0} (holds : D → Option Areas) (may_leave : D → Areas → 
   pub came_wanting : (job : Result Job NotRun) (result : Status) (w : Written) → Ended status.OutOfMemory memory_line result w → Came job result w (disk_run holds may_leave moment left_since faults disk disk)
   came_wanting job result w ended = starved_first job result w (disk_run holds may_leave moment left_since faults disk disk) (first_of job) ended
 
--- ---- what comes of the bytes of a source
+-- ---- what comes of the bytes of the script
+
+pub no_restart : (start : Start) → (start ≡ New) ⊎ ((seed : ℕ) × (start ≡ Sample seed)) → start ≢ Restart
+no_restart start (inl is) = λ e. let odd : New ≡ Restart = sym is ∙ e in cc odd
+no_restart start (inr is) = λ e. let odd : Sample is.0 ≡ Restart = sym is.1 ∙ e in cc odd
 
 known_here : (told : Option Areas) → IfSome told (λ areas. held_in told ≡ held areas.a areas.b)
 known_here None = tt
@@ -135,24 +139,26 @@ turned : (told : Option Areas) (h : Held Mesh BadImage) → IfSome told (λ area
 turned None h e = tt
 turned (Some areas) h e = sym e
 
-module _ (start : Start) (told : Option Areas) (bytes : List ℕ) (result : Status) (w : Written) (d : DiskRun) where
-  pub of_new : start ≡ New → Came (job_from first_mesh (script_of None bytes)) result w d → OfJob (Some start) told bytes result w d
-  of_new is came = record {
-    holds = held_in told;
-    known = known_here told;
-    came = subst (λ s. Came (job_by (Some s) (held_in told) (λ given. script_of given bytes)) result w d) (sym is) came;
-  }
+module _ (asked : Asked) (told : Option Areas) (script : List ℕ) (result : Status) (w : Written) (d : DiskRun) where
+  -- a run that does not ask what the disk holds
+  at_new : (start : Start) → start ≢ Restart → Came (job_from asked first_mesh (script_of None script)) result w d → Came (job_at start asked (held_in told) (λ given. script_of given script)) result w d
+  at_new New other came = came
+  at_new (Sample seed) other came = came
+  at_new Restart other came = absurd (other refl)
 
-  pub of_restart : (h : Held Mesh BadImage) → start ≡ Restart → IfSome told (λ areas. held areas.a areas.b ≡ h) → Came (restarted h (λ given. script_of given bytes)) result w d → OfJob (Some start) told bytes result w d
+  pub of_new : asked.start ≢ Restart → Came (job_from asked first_mesh (script_of None script)) result w d → OfJob asked told script result w d
+  of_new other came = record { holds = held_in told; known = known_here told; came = at_new asked.start other came }
+
+  pub of_restart : (h : Held Mesh BadImage) → asked.start ≡ Restart → IfSome told (λ areas. held areas.a areas.b ≡ h) → Came (restarted asked h (λ given. script_of given script)) result w d → OfJob asked told script result w d
   of_restart h is holds came = record {
     holds = h;
     known = turned told h holds;
-    came = subst (λ s. Came (job_by (Some s) h (λ given. script_of given bytes)) result w d) (sym is) came;
+    came = subst (λ s. Came (job_at s asked h (λ given. script_of given script)) result w d) (sym is) came;
   }
 
   -- so it is whatever the disk holds
-  pub of_any : start ≡ Restart → ((job : Result Job NotRun) → Came job result w d) → OfJob (Some start) told bytes result w d
-  of_any is came = record { holds = held_in told; known = known_here told; came = came (job_by (Some start) (held_in told) (λ given. script_of given bytes)) }
+  pub of_any : ((job : Result Job NotRun) → Came job result w d) → OfJob asked told script result w d
+  of_any came = record { holds = held_in told; known = known_here told; came = came (job_of (Some asked) (held_in told) script) }
 
 -- the line that refuses the words needs no memory
 pub words_ended : (result : Status) (w : Written) → RefusedWith reasons.Words result w → Ended status.Words words_line result w
@@ -160,9 +166,27 @@ words_ended result w (inl e) = e
 words_ended result w (inr e) = absurd e.0
 
 -- a run that saves nothing leaves the disk alone
-pub idle_job : (said : Option Start) (start : Start) (left : Option (List ℕ)) (read now : List ℕ) (h : Held Mesh BadImage) (Y : List ℕ → Type 0) (P : Type 0) → said ≡ Some start → now ≡ read →
-    IfSome left (λ all. (read ≡ take most_read all) × Y all) → (start ≢ Restart → SavesNothing (job_from first_mesh (script_of None now)) → P) → said ≢ Some Restart → IfSome left (λ all. SavesNothing (job_of said h all) → P)
-idle_job said start None read now h Y P is same told idle other = tt
-idle_job said New (Some all) read now h Y P is same told idle other = λ saves.
-    idle (λ e. cc e) (subst (λ bytes. SavesNothing (job_from first_mesh (script_of None bytes))) (sym (same ∙ told.0)) (subst (λ s. SavesNothing (job_of s h all)) is saves))
-idle_job said Restart (Some all) read now h Y P is same told idle other = λ saves. absurd (other is)
+module _ (P : Type 0) (asked : Asked) (h : Held Mesh BadImage) (script : List ℕ) (idle : asked.start ≢ Restart → SavesNothing (job_from asked first_mesh (script_of None script)) → P) where
+  idle_at : (start : Start) → asked.start ≡ start → asked.start ≢ Restart → SavesNothing (job_at start asked h (λ given. script_of given script)) → P
+  idle_at New is other saves = idle other saves
+  idle_at (Sample seed) is other saves = idle other saves
+  idle_at Restart is other saves = absurd (other is)
+
+pub idle_job : (said : Option Asked) (asked : Asked) (left : Option (List ℕ)) (script : List ℕ) (h : Held Mesh BadImage) (P : Type 0) → said ≡ Some asked → IfSome (script_at asked.start left) (λ whole. script ≡ whole) →
+    (asked.start ≢ Restart → SavesNothing (job_from asked first_mesh (script_of None script)) → P) → ¬ IsRestart said → IfSome (script_by said left) (λ whole. SavesNothing (job_of said h whole) → P)
+idle_job said asked left script h P is same idle other =
+    let never : asked.start ≢ Restart = λ e. other (subst IsRestart (sym is) e) in
+    subst (λ a. IfSome (script_by a left) (λ whole. SavesNothing (job_of a h whole) → P)) (sym is)
+    (each (script_at asked.start left) same (λ whole e saves. idle_at P asked h script idle asked.start refl never (subst (λ b. SavesNothing (job_of (Some asked) h b)) (sym e) saves)))
+  where
+    each : (o : Option (List ℕ)) → IfSome o (λ whole. script ≡ whole) → ((whole : List ℕ) → script ≡ whole → SavesNothing (job_of (Some asked) h whole) → P) → IfSome o (λ whole. SavesNothing (job_of (Some asked) h whole) → P)
+    each None is on = tt
+    each (Some whole) is on = on whole is
+
+-- words that are refused run nothing
+pub idle_words : (said : Option Asked) (left : Option (List ℕ)) (h : Held Mesh BadImage) (P : Type 0) → P → IfSome (script_by said left) (λ whole. SavesNothing (job_of said h whole) → P)
+idle_words said left h P p = each (script_by said left)
+  where
+    each : (o : Option (List ℕ)) → IfSome o (λ whole. SavesNothing (job_of said h whole) → P)
+    each None = tt
+    each (Some whole) = λ saves. p

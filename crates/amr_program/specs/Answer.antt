@@ -1,8 +1,9 @@
--- The plain answer: what a run answers and prints, as a function of its words, of the bytes of its source, and of what the disk holds.
-use Rattle.std.specs.Prelude.{◌≡◌, ◌≢◌, All, ℕ, ◌+◌, ◌≤◌, ◌<◌, true, false, if◌then◌else◌, IfSome, List, [], ◌∷◌, ◌++◌, length, Option, Some, None, IsSome, Result, Ok, Err, ◌⊎◌, drop, take, bytes_eq, codes}
+-- The plain answer: what a run answers and prints, as a function of its words, of the bytes of its script, and of what the disk holds.
+use Rattle.std.specs.Prelude.{◌≡◌, ◌≢◌, All, ℕ, ◌+◌, ◌≤◌, if◌then◌else◌, IfSome, List, [], ◌∷◌, ◌++◌, length, Option, Some, None, IsSome, Result, Ok, Err, ◌⊎◌, drop, take, option_map}
 use Rattle.amr_engine.specs.Built.{is_built}
 use Rattle.mesh_model.specs.Language.Commands.{PlainScript}
 use Rattle.mesh_model.specs.Language.Grammar.{Fault, most_bytes, script_of}
+use Rattle.mesh_model.specs.Language.Sample.{sample}
 use Rattle.mesh_model.specs.Fields.Plain.{Mesh}
 use Rattle.mesh_model.specs.Images.Codec.{IsBytes}
 use Rattle.mesh_model.specs.Images.Held.{Held, Nothing, DamagedA, DamagedB, Found, held}
@@ -22,51 +23,76 @@ use Rattle.amr_program.specs.declared.status.Status.{Status}
 use Rattle.amr_program.specs.declared.status.Status.TheVariants.{Done, Words, Script, Stopped, Level, ReadFault, NoCheckpoint, Damaged}
 use Rattle.amr_program.specs.declared.not_run.NotRun.{NotRun}
 use Rattle.amr_program.specs.declared.not_run.NotRun.TheVariants as reasons
+use Rattle.amr_program.specs.declared.words.Asked.{Asked}
 use Rattle.amr_program.specs.declared.words.Start.{Start}
-use Rattle.amr_program.specs.declared.words.Start.TheVariants.{New, Restart}
+use Rattle.amr_program.specs.declared.words.Start.TheVariants.{New, Restart, Sample}
+use Rattle.amr_program.specs.Words.{asked_in}
 use Rattle.amr_program.specs.Lines.{disk_line, memory_line, not_run_line, read_line}
 
 -- ---- what is run
-
--- where the words let a run start, if they are taken: there is none, or the one word that asks for a restart
-abbrev pub start_in : List (List ℕ) → Option Start
-start_in [] = Some New
-start_in (word ∷ []) = if bytes_eq word (codes "--restart") then Some Restart else None
-start_in (word ∷ next ∷ words) = None
 
 -- how many bytes are read of a source at most: one more than a script may have
 abbrev pub most_read : ℕ
 most_read = most_bytes + 1
 
--- what the bytes of the source say, where this was declared before
-abbrev pub read_in : Option Declared → List ℕ → Result PlainScript Fault
-read_in given bytes = script_of given (take most_read bytes)
+-- the bytes of the script, where they are known: those of the sample, or the first ones that the source has
+abbrev pub script_at : Start → Option (List ℕ) → Option (List ℕ)
+script_at New left = option_map (λ bytes. take most_read bytes) left
+script_at Restart left = option_map (λ bytes. take most_read bytes) left
+script_at (Sample seed) left = Some (sample seed)
+
+-- where the words are refused there are none
+abbrev pub script_by : Option Asked → Option (List ℕ) → Option (List ℕ)
+script_by None left = Some []
+script_by (Some asked) left = script_at asked.start left
+
+abbrev pub script_in : List (List ℕ) → Option (List ℕ) → Option (List ℕ)
+script_in words left = script_by (asked_in words) left
+
+-- with a sample the source is not read
+abbrev pub ReadsAt : Start → Type 0
+ReadsAt New = Unit {0}
+ReadsAt Restart = Unit {0}
+ReadsAt (Sample seed) = ⊥
+
+abbrev pub ReadsSource : Option Asked → Type 0
+ReadsSource None = ⊥
+ReadsSource (Some asked) = ReadsAt asked.start
+
+-- a restart is asked for
+abbrev pub IsRestart : Option Asked → Type 0
+IsRestart None = ⊥
+IsRestart (Some asked) = asked.start ≡ Restart
 
 -- what is run: the mesh with which the commands begin, and their lines
 pub record Job : Type 0 where
   pub mesh : Mesh
   pub lines : List Line
 
--- a script that was read is run from a mesh where it is built, by one rank and one worker
-abbrev pub job_from : (PlainScript → Mesh) → Result PlainScript Fault → Result Job NotRun
-job_from from (Ok s) = if is_built s 1 1 then Ok (record { mesh = from s; lines = s.lines }) else Err reasons.NotBuilt
-job_from from (Err fault) = Err (reasons.Fault fault.line fault.reason)
+-- a script that was read is run from a mesh where it is built, by the ranks and the workers that are asked for
+abbrev pub job_from : Asked → (PlainScript → Mesh) → Result PlainScript Fault → Result Job NotRun
+job_from asked from (Ok s) = if is_built s asked.ranks asked.workers then Ok (record { mesh = from s; lines = s.lines }) else Err reasons.NotBuilt
+job_from asked from (Err fault) = Err (reasons.Fault fault.line fault.reason)
 
--- a run from the mesh of an image, by what the disk holds and what the source says
-abbrev pub restarted : Held Mesh BadImage → (Option Declared → Result PlainScript Fault) → Result Job NotRun
-restarted Nothing says = Err reasons.NoCheckpoint
-restarted (DamagedA bad) says = Err (reasons.Damaged A bad)
-restarted (DamagedB bad) says = Err (reasons.Damaged B bad)
-restarted (Found m) says = job_from (λ s. m) (says (Some (declared_in m)))
+-- a run from the mesh of an image, by what the disk holds and what the script says
+abbrev pub restarted : Asked → Held Mesh BadImage → (Option Declared → Result PlainScript Fault) → Result Job NotRun
+restarted asked Nothing says = Err reasons.NoCheckpoint
+restarted asked (DamagedA bad) says = Err (reasons.Damaged A bad)
+restarted asked (DamagedB bad) says = Err (reasons.Damaged B bad)
+restarted asked (Found m) says = job_from asked (λ s. m) (says (Some (declared_in m)))
 
 -- what is run, or why nothing is
-abbrev pub job_by : Option Start → Held Mesh BadImage → (Option Declared → Result PlainScript Fault) → Result Job NotRun
-job_by None h says = Err reasons.Words
-job_by (Some New) h says = job_from first_mesh (says None)
-job_by (Some Restart) h says = restarted h says
+abbrev pub job_at : Start → Asked → Held Mesh BadImage → (Option Declared → Result PlainScript Fault) → Result Job NotRun
+job_at New asked h says = job_from asked first_mesh (says None)
+job_at Restart asked h says = restarted asked h says
+job_at (Sample seed) asked h says = job_from asked first_mesh (says None)
 
-abbrev pub job_of : Option Start → Held Mesh BadImage → List ℕ → Result Job NotRun
-job_of start h bytes = job_by start h (λ given. read_in given bytes)
+abbrev pub job_by : Option Asked → Held Mesh BadImage → (Option Declared → Result PlainScript Fault) → Result Job NotRun
+job_by None h says = Err reasons.Words
+job_by (Some asked) h says = job_at asked.start asked h says
+
+abbrev pub job_of : Option Asked → Held Mesh BadImage → List ℕ → Result Job NotRun
+job_of asked h script = job_by asked h (λ given. script_of given script)
 
 -- what a disk holds by what a read gives of its areas
 abbrev pub held_in : Option Areas → Held Mesh BadImage
@@ -74,19 +100,27 @@ held_in None = Nothing
 held_in (Some areas) = held areas.a areas.b
 
 abbrev pub job_in : List (List ℕ) → Option Areas → List ℕ → Result Job NotRun
-job_in words disk bytes = job_of (start_in words) (held_in disk) bytes
+job_in words disk script = job_of (asked_in words) (held_in disk) script
 
 -- a restart is told of where the disk tells its bytes
-abbrev pub IsTold : Option Start → Option Areas → Type 0
+abbrev pub IsToldAt : Start → Option Areas → Type 0
+IsToldAt New disk = Unit {0}
+IsToldAt Restart disk = IsSome disk
+IsToldAt (Sample seed) disk = Unit {0}
+
+abbrev pub IsTold : Option Asked → Option Areas → Type 0
 IsTold None disk = Unit {0}
-IsTold (Some New) disk = Unit {0}
-IsTold (Some Restart) disk = IsSome disk
+IsTold (Some asked) disk = IsToldAt asked.start disk
 
 -- what the areas of a restart's disk have are bytes
-abbrev pub HasBytes : Option Start → Option Areas → Type 0
+abbrev pub HasBytesAt : Start → Option Areas → Type 0
+HasBytesAt New disk = Unit {0}
+HasBytesAt Restart disk = IfSome disk (λ areas. IsBytes areas.a × IsBytes areas.b)
+HasBytesAt (Sample seed) disk = Unit {0}
+
+abbrev pub HasBytes : Option Asked → Option Areas → Type 0
 HasBytes None disk = Unit {0}
-HasBytes (Some New) disk = Unit {0}
-HasBytes (Some Restart) disk = IfSome disk (λ areas. IsBytes areas.a × IsBytes areas.b)
+HasBytes (Some asked) disk = HasBytesAt asked.start disk
 
 -- ---- what it answers
 
@@ -133,7 +167,7 @@ answer_of (Ok j) = record {
 answer_of (Err reason) = record { status = status_unrun reason; text = not_run_line reason }
 
 abbrev pub plain_answer : List (List ℕ) → List ℕ → Held Mesh BadImage → Answer
-plain_answer words bytes h = answer_of (job_of (start_in words) h bytes)
+plain_answer words script h = answer_of (job_of (asked_in words) h script)
 
 -- the status is the answer's, and a sink that tells took its text
 pub record IsAnswer (answer : Answer) (status : Status) (before after : Option (List ℕ)) : Type 0 where
@@ -194,28 +228,29 @@ MayFail (Ok j) k = NeedsAfter TheDisk k j.mesh j.lines
 MayFail (Err reason) k = ⊥
 
 -- a text that want of memory, or a fault of the disk at a restart or at a checkpoint, ends
-abbrev pub MayEnd : Option Start → Result Job NotRun → Type 0 → List ℕ → Type 0
-MayEnd start job Broken text =
+abbrev pub MayEnd : Option Asked → Result Job NotRun → Type 0 → List ℕ → Type 0
+MayEnd asked job Broken text =
     ((k : ℕ) × MayWant job k × (text ≡ first_texts job k ++ memory_line))
-    ⊎ (Broken × (((start ≡ Some Restart) × (text ≡ disk_line)) ⊎ ((k : ℕ) × MayFail job k × (text ≡ first_texts job k ++ disk_line))))
+    ⊎ (Broken × ((IsRestart asked × (text ≡ disk_line)) ⊎ ((k : ℕ) × MayFail job k × (text ≡ first_texts job k ++ disk_line))))
 
--- a text that the run would have printed: the plain answer's, or where words are taken what a fault of the source or of the disk or want
--- of memory ends
-abbrev pub MayPrint : Option Start → Result Job NotRun → Type 0 → Type 0 → List ℕ → Type 0
-MayPrint start job Unread Broken text = (text ≡ (answer_of job).text) ⊎ (IsSome start × ((Unread × (text ≡ read_line)) ⊎ MayEnd start job Broken text))
+-- a text that the run would have printed: the plain answer's, or what want of memory, a fault of the source where it is read, or one of the
+-- disk ends
+abbrev pub MayPrint : Option Asked → Result Job NotRun → Type 0 → Type 0 → List ℕ → Type 0
+MayPrint asked job Unread Broken text = (text ≡ (answer_of job).text) ⊎ ((ReadsSource asked × Unread × (text ≡ read_line)) ⊎ MayEnd asked job Broken text)
 
 -- the sink took the first bytes of a text that the run would have printed
-abbrev pub TookPart : Option Start → Result Job NotRun → Type 0 → Type 0 → Option (List ℕ) → Option (List ℕ) → Type 0
-TookPart start job Unread Broken before after = (text : List ℕ) × MayPrint start job Unread Broken text × TakesPrefix before text after
+abbrev pub TookPart : Option Asked → Result Job NotRun → Type 0 → Type 0 → Option (List ℕ) → Option (List ℕ) → Type 0
+TookPart asked job Unread Broken before after = (text : List ℕ) × MayPrint asked job Unread Broken text × TakesPrefix before text after
 
 -- the sink took the texts of the first commands, and then the line that says that memory is wanting
 abbrev pub TookBeforeMemory : Result Job NotRun → Option (List ℕ) → Option (List ℕ) → Type 0
 TookBeforeMemory job before after = (k : ℕ) × MayWant job k × Takes before (first_texts job k ++ memory_line) after
 
--- the sink took the line that says that the disk failed: alone at a restart, or after the texts of the commands before a checkpoint
-abbrev pub TookBeforeFault : Option Start → Result Job NotRun → Option (List ℕ) → Option (List ℕ) → Type 0
-TookBeforeFault start job before after =
-    ((start ≡ Some Restart) × Takes before disk_line after) ⊎ ((k : ℕ) × MayFail job k × Takes before (first_texts job k ++ disk_line) after)
+-- the sink took the line that says that the disk failed: alone at a restart, where the disk was read at most (Kept), or after the texts of
+-- the commands before a checkpoint
+abbrev pub TookBeforeFault : Option Asked → Result Job NotRun → Type 0 → Option (List ℕ) → Option (List ℕ) → Type 0
+TookBeforeFault asked job Kept before after =
+    (IsRestart asked × Kept × Takes before disk_line after) ⊎ ((k : ℕ) × MayFail job k × Takes before (first_texts job k ++ disk_line) after)
 
 -- R holds at each command of the run that is done
 abbrev pub AlongRun : (Mesh → Command → Mesh → Type 0) → Result Job NotRun → Type 0

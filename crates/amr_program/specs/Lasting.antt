@@ -1,5 +1,5 @@
 -- What the disk went through in a run, and what a crash leaves of it.
-use Rattle.std.specs.Prelude.{◌≡◌, ◌⊎◌, ℕ, ◌+◌, ◌-◌, ◌<◌, ◌≤◌, if◌then◌else◌, nat_lt, IfSome, List, ◌++◌, length, take, Option, Some, Result}
+use Rattle.std.specs.Prelude.{◌≡◌, ◌⊎◌, ℕ, ◌+◌, ◌-◌, ◌≤◌, if◌then◌else◌, nat_lt, IfSome, List, ◌++◌, length, take, Option, Some, Result}
 use Rattle.outside_io.specs.Areas.{Areas}
 use Rattle.outside_io.specs.Crash.{LeavesOnly, Reads, Rests}
 use Rattle.outside_io.specs.Moved.{Rose, Takes}
@@ -12,9 +12,8 @@ use Rattle.amr_engine.specs.Saving.{HasSaved, StaysWhole}
 use Rattle.amr_program.specs.declared.not_run.NotRun.{NotRun}
 use Rattle.amr_program.specs.declared.status.Status.{Status}
 use Rattle.amr_program.specs.declared.status.Status.TheVariants as status
-use Rattle.amr_program.specs.Answer.{Job, MayFail, MayWant, answer_of, count_in, first_texts}
-use Rattle.amr_program.specs.declared.words.Start.{Start}
-use Rattle.amr_program.specs.declared.words.Start.TheVariants.{Restart}
+use Rattle.amr_program.specs.Answer.{IsRestart, Job, MayFail, MayWant, answer_of, count_in, first_texts}
+use Rattle.amr_program.specs.declared.words.Asked.{Asked}
 use Rattle.amr_program.specs.Lines.{disk_line, memory_line, read_line}
 
 -- what may be said of a disk before and after a run, or a part of one
@@ -75,12 +74,16 @@ HasLine job k line before after = TookBetween (length (first_texts job k)) (leng
 abbrev pub IsOr : Status → Status → Type 0
 IsOr ends result = (result ≡ ends) ⊎ (result ≡ status.WriteFault)
 
--- a fault of the source, or of the disk at a restart, ended the run before its first command
-abbrev pub EndsUnread : ℕ → Status → Type 0 → Option (List ℕ) → Option (List ℕ) → Type 0
-EndsUnread k result Unread before after = (k ≡ 0) × IsOr status.ReadFault result × Unread × TookBetween 0 (length read_line) read_line before after
+-- want of memory for the words ended the run before the source was read
+abbrev pub EndsWanting : Status → Option (List ℕ) → Option (List ℕ) → Type 0
+EndsWanting result before after = IsOr status.OutOfMemory result × TookBetween 0 (length memory_line) memory_line before after
 
-abbrev pub EndsUnheld : Option Start → ℕ → Status → Type 0 → Option (List ℕ) → Option (List ℕ) → Type 0
-EndsUnheld start k result Broken before after = (k ≡ 0) × (start ≡ Some Restart) × IsOr status.DiskFault result × Broken × TookBetween 0 (length disk_line) disk_line before after
+-- a fault of the source, or of the disk at a restart, ended the run before its first command, and the disk was read at most (Kept)
+abbrev pub EndsUnread : ℕ → Status → Type 0 → Type 0 → Option (List ℕ) → Option (List ℕ) → Type 0
+EndsUnread k result Unread Kept before after = (k ≡ 0) × IsOr status.ReadFault result × Unread × Kept × TookBetween 0 (length read_line) read_line before after
+
+abbrev pub EndsUnheld : Option Asked → ℕ → Status → Type 0 → Type 0 → Option (List ℕ) → Option (List ℕ) → Type 0
+EndsUnheld asked k result Broken Kept before after = (k ≡ 0) × IsRestart asked × IsOr status.DiskFault result × Broken × Kept × TookBetween 0 (length disk_line) disk_line before after
 
 -- it ended where its answer says, after all commands that are done
 abbrev pub EndsAnswered : Result Job NotRun → ℕ → Status → Option (List ℕ) → Option (List ℕ) → Type 0
@@ -98,7 +101,7 @@ abbrev pub EndsBroken : Result Job NotRun → ℕ → Status → Type 0 → Opti
 EndsBroken job k result Broken before after = IsOr status.DiskFault result × Broken × MayFail job k × HasLine job k disk_line before after
 
 -- where a run ended: after so many commands
-abbrev pub EndsAfter : Option Start → Result Job NotRun → ℕ → Status → Type 0 → Type 0 → Option (List ℕ) → Option (List ℕ) → Type 0
-EndsAfter start job k result Unread Broken before after =
-    EndsUnread k result Unread before after ⊎ (EndsUnheld start k result Broken before after ⊎ (EndsAnswered job k result before after
+abbrev pub EndsAfter : Option Asked → Result Job NotRun → ℕ → Status → Type 0 → Type 0 → Type 0 → Option (List ℕ) → Option (List ℕ) → Type 0
+EndsAfter asked job k result Unread Broken Kept before after =
+    EndsUnread k result Unread Kept before after ⊎ (EndsUnheld asked k result Broken Kept before after ⊎ (EndsAnswered job k result before after
     ⊎ (EndsCut job k result before after ⊎ (EndsStarved job k result before after ⊎ EndsBroken job k result Broken before after))))

@@ -1,5 +1,5 @@
 -- The meshes with which runs begin.
-use Rattle.std.specs.Prelude.{◌≡◌, Option, Some, None}
+use Rattle.std.specs.Prelude.{Option, Some, None}
 use Rattle.check_format.specs.ReadImages.{IsRead, stored_in}
 use Rattle.check_format.specs.declared.reading.images.Image.{Image}
 use Rattle.mesh_model.specs.Fields.Plain.{Mesh}

@@ -1,11 +1,10 @@
 -- The ways in which the parts of a run end.
-use Rattle.std.specs.Prelude.{◌≡◌, ℕ, ◌+◌, ◌≤◌, ◌<◌, List, ◌++◌, length, Option, Some, None, IsSome, Result, Ok, Err, ◌⊎◌, IfSome, take, drop}
+use Rattle.std.specs.Prelude.{◌≡◌, ℕ, ◌+◌, ◌<◌, List, ◌++◌, length, Option, Some, None, Result, Ok, Err, ◌⊎◌, IfSome, take, drop}
 use Rattle.amr_engine.specs.declared.cause.StoppedBy.{StoppedBy}
 use Rattle.amr_engine.specs.declared.cause.StoppedBy.TheVariants as by
 use Rattle.amr_engine.specs.Stopping.{IsUntouched, Written, Wrote, WrotePart}
 use Rattle.mesh_model.specs.declared.images.BadImage.{BadImage}
 use Rattle.mesh_model.specs.declared.language.script.Line.{Line}
-use Rattle.mesh_model.specs.Language.Grammar.{script_of}
 use Rattle.mesh_model.specs.Fields.Plain.{Mesh}
 use Rattle.mesh_model.specs.Images.Held.{Held, held}
 use Rattle.mesh_model.specs.Run.Runs.{TheDisk, TheMemory, checkpoints, done, stop, texts}
@@ -17,9 +16,11 @@ use Rattle.amr_program.specs.declared.status.Status.{Status}
 use Rattle.amr_program.specs.declared.status.Status.TheVariants as status
 use Rattle.amr_program.specs.declared.not_run.NotRun.{NotRun}
 use Rattle.amr_program.specs.declared.not_run.NotRun.TheVariants as reasons
+use Rattle.amr_program.specs.declared.words.Asked.{Asked}
 use Rattle.amr_program.specs.declared.words.Start.{Start}
-use Rattle.amr_program.specs.declared.words.Start.TheVariants.{Restart}
-use Rattle.amr_program.specs.Answer.{Job, MayFail, MayWant, NeedsAfter, answer_of, count_in, done_in, first_texts, job_by, most_read, start_in, status_of, status_unrun}
+use Rattle.amr_program.specs.declared.words.Start.TheVariants.{New, Restart, Sample}
+use Rattle.amr_program.specs.Answer.{Job, MayFail, MayWant, NeedsAfter, ReadsAt, answer_of, count_in, first_texts, job_of, most_read, script_at, status_of, status_unrun}
+use Rattle.amr_program.specs.Words.{asked_in}
 use Rattle.amr_program.specs.Lasting.{DiskRun, HasLine, IsCut, TookBetween}
 use Rattle.amr_program.specs.Lines.{disk_line, memory_line, not_run_line, read_line, words_line}
 
@@ -134,55 +135,75 @@ pub record Source : Type 0 where
   pub faults : ℕ
   pub new_faults : ℕ
 
+-- the source at return: its first bytes were taken, or with a sample none
+abbrev pub left_at : Start → List ℕ → List ℕ
+left_at New bytes = drop most_read bytes
+left_at Restart bytes = drop most_read bytes
+left_at (Sample seed) bytes = bytes
+
+abbrev pub WasRead : Start → Source → Type 0
+WasRead start s = IfSome s.before (λ bytes. s.after ≡ Some (left_at start bytes))
+
 -- the words were refused, and the source was not touched
 pub record ByWords (words : List (List ℕ)) (result : Status) (s : Source) (w : Written) (d : DiskRun) : Type 0 where
-  pub refused : start_in words ≡ None
+  pub refused : asked_in words ≡ None
   pub calm : s.new_faults ≡ s.faults
   pub ended : Ended status.Words words_line result w
   pub untouched : d.untouched
   pub disk_calm : d.calm
 
+-- memory to read the words was refused, and the source was not touched
+pub record Wanting (result : Status) (s : Source) (w : Written) (d : DiskRun) : Type 0 where
+  pub calm : s.new_faults ≡ s.faults
+  pub same : s.after ≡ s.before
+  pub ended : Ended status.OutOfMemory memory_line result w
+  pub untouched : d.untouched
+  pub disk_calm : d.calm
+
 -- the source failed
-pub record ByRead (words : List (List ℕ)) (result : Status) (s : Source) (w : Written) (d : DiskRun) : Type 0 where
-  pub taken : IsSome (start_in words)
+pub record ByRead (start : Start) (result : Status) (s : Source) (w : Written) (d : DiskRun) : Type 0 where
+  pub reads : ReadsAt start
   pub rose : Rose s.faults s.new_faults
   pub ended : Ended status.ReadFault read_line result w
   pub untouched : d.untouched
   pub disk_calm : d.calm
 
--- memory to read the source into was refused, and its bytes were passed over
-pub record ByMemory (words : List (List ℕ)) (result : Status) (s : Source) (w : Written) (d : DiskRun) : Type 0 where
-  pub taken : IsSome (start_in words)
+-- memory for the script was refused, and the bytes of the source were passed over
+pub record ByMemory (start : Start) (result : Status) (s : Source) (w : Written) (d : DiskRun) : Type 0 where
   pub calm : s.new_faults ≡ s.faults
-  pub left : IfSome s.before (λ all. s.after ≡ Some (drop most_read all))
+  pub left : WasRead start s
   pub ended : Ended status.OutOfMemory memory_line result w
   pub untouched : d.untouched
   pub disk_calm : d.calm
 
 -- the disk failed at a restart
-pub record Unheld (start : Option Start) (result : Status) (w : Written) (d : DiskRun) : Type 0 where
-  pub restart : start ≡ Some Restart
+pub record Unheld (start : Start) (result : Status) (w : Written) (d : DiskRun) : Type 0 where
+  pub restart : start ≡ Restart
   pub rose : d.rose
   pub ended : Ended status.DiskFault disk_line result w
   pub untouched : d.untouched
 
--- what comes of the bytes of the source: the disk failed at a restart, or there is a job, by what the disk holds, or none
-pub record OfJob (start : Option Start) (told : Option Areas) (bytes : List ℕ) (result : Status) (w : Written) (d : DiskRun) : Type 0 where
+-- there is a job, by what the disk holds, or none
+pub record OfJob (asked : Asked) (told : Option Areas) (script : List ℕ) (result : Status) (w : Written) (d : DiskRun) : Type 0 where
   pub holds : Held Mesh BadImage
   pub known : IfSome told (λ areas. holds ≡ held areas.a areas.b)
-  pub came : Came (job_by start holds (λ given. script_of given bytes)) result w d
+  pub came : Came (job_of (Some asked) holds script) result w d
 
-abbrev pub FromBytes : Start → Option Areas → List ℕ → Status → Written → DiskRun → Type 0
-FromBytes start told bytes result w d = Unheld (Some start) result w d ⊎ OfJob (Some start) told bytes result w d
+-- what comes of the bytes of the script
+abbrev pub FromBytes : Asked → Option Areas → List ℕ → Status → Written → DiskRun → Type 0
+FromBytes asked told script result w d = Unheld asked.start result w d ⊎ OfJob asked told script result w d
 
--- the bytes were read
-pub record ByBytes (words : List (List ℕ)) (told : Option Areas) (result : Status) (s : Source) (w : Written) (d : DiskRun) : Type 0 where
+-- the script was had
+pub record ByBytes (asked : Asked) (told : Option Areas) (result : Status) (s : Source) (w : Written) (d : DiskRun) : Type 0 where
   pub calm : s.new_faults ≡ s.faults
+  pub left : WasRead asked.start s
   pub bytes : List ℕ
-  pub left : IfSome s.before (λ all. (bytes ≡ take most_read all) × (s.after ≡ Some (drop most_read all)))
-  pub start : Start
-  pub taken : start_in words ≡ Some start
-  pub from : FromBytes start told bytes result w d
+  pub script : IfSome (script_at asked.start s.before) (λ script. bytes ≡ script)
+  pub from : FromBytes asked told bytes result w d
+
+-- what comes of words that are taken
+abbrev pub ByAsked : Asked → Option Areas → Status → Source → Written → DiskRun → Type 0
+ByAsked asked told result s w d = ByRead asked.start result s w d ⊎ (ByMemory asked.start result s w d ⊎ ByBytes asked told result s w d)
 
 abbrev pub Outcome : List (List ℕ) → Option Areas → Status → Source → Written → DiskRun → Type 0
-Outcome words told result s w d = ByWords words result s w d ⊎ (ByRead words result s w d ⊎ (ByMemory words result s w d ⊎ ByBytes words told result s w d))
+Outcome words told result s w d = ByWords words result s w d ⊎ (Wanting result s w d ⊎ ((asked : Asked) × (asked_in words ≡ Some asked) × ByAsked asked told result s w d))

@@ -14,11 +14,14 @@ mod program;
 #[cfg(test)]
 mod restart_tests;
 mod run;
+mod script_text;
 mod status;
 mod stop_line;
 #[cfg(test)]
 mod tests;
 mod words;
+#[cfg(test)]
+mod words_tests;
 
 use outside_io::folder_disk::FolderDisk;
 use outside_io::std_sink::StdSink;

@@ -1,10 +1,10 @@
-use Rattle.std.proofs.Common.{◌≡◌, ◌⊎◌, ◌<◌, ℕ, Some, ap, map, sym, subst, arith}
-use Rattle.std.specs.Prelude.{string_bytes, IfSome}
+use Rattle.std.proofs.Common.{◌≡◌, ◌⊎◌, ℕ, Some, sym, subst, arith}
 use Rattle.amr_engine.proofs.Balanced.{runs_make_balance}
 use Rattle.amr_program.proofs.Beginning.{along_run}
 use Rattle.amr_program.proofs.Clauses as clauses
 use Rattle.amr_program.proofs.Lasted.{job_lasts, told_some}
-use Rattle.amr_program.specs.Answer.{IsTold, held_in, job_of, start_in}
+use Rattle.amr_program.specs.Answer.{IsTold, held_in, job_of, script_by}
+use Rattle.amr_program.specs.Words.{asked_in, texts_of}
 use Rattle.amr_program.specs.Lasting.{EndsAfter, disk_run}
 use Rattle.amr_program.specs.Outcome.{BeginsAt, LastsAt}
 use Rattle.mesh_model.specs.Run.Runs.{KeepsBalance, KeepsOuts, KeepsTotals, MakesBalance, StaysPositive}
@@ -67,18 +67,18 @@ pub returns-clause-untouched : goal.returns-clause-untouched
 returns-clause-untouched g c = clauses.untouched _ _ _ _ _ _ c.answer_words.ensures.outcome
 
 pub returns-clause-disk_fault_told : goal.returns-clause-disk_fault_told
-returns-clause-disk_fault_told g c more calm told = clauses.disk_fault_told _ _ _ _ _ _ c.answer_words.ensures.outcome (λ same. omega (arith, same, more)) calm told
+returns-clause-disk_fault_told g c more calm = clauses.disk_fault_told _ _ _ _ _ _ c.answer_words.ensures.outcome (λ same. omega (arith, same, more)) calm
 
 pub returns-clause-lasts : goal.returns-clause-lasts
 returns-clause-lasts g c areas rests whole =
     let d = g.D.Disk in
-    let words = map (λ w. string_bytes w) c.args.words.now in
+    let asked = asked_in (texts_of c.args.words.now) in
     let run = disk_run d.holds d.may_leave d.moment d.left_since d.faults c.args.disk.now c.answer_words.new.disk in
-    let told = subst (IsTold (start_in words)) (sym rests.told) (told_some (start_in words) areas) in
-    clauses.carried (g.S.Source.left c.args.source.now) _ _ (clauses.ends _ _ _ _ _ _ c.answer_words.ensures.outcome told)
-    (λ bytes e.
-    let job = job_of (start_in words) (held_in (Some areas)) bytes in
-    let here = subst (λ t. let of = job_of (start_in words) (held_in t) bytes in (k : ℕ) × EndsAfter (start_in words) of k c.answer_words.result (Rose (g.S.Source.faults c.args.source.now) (g.S.Source.faults c.answer_words.new.source)) (Rose (d.faults c.args.disk.now) (d.faults c.answer_words.new.disk)) (g.K.Sink.taken c.args.sink.now) (g.K.Sink.taken c.answer_words.new.sink) × (LastsAt of k run ⊎ (BeginsAt of k run ⊎ ((k ≡ 0) × run.untouched)))) rests.told e in
+    let told = subst (IsTold asked) (sym rests.told) (told_some asked areas) in
+    clauses.carried (script_by asked (g.S.Source.left c.args.source.now)) _ _ (clauses.ends _ _ _ _ _ _ c.answer_words.ensures.outcome told)
+    (λ script e.
+    let job = job_of asked (held_in (Some areas)) script in
+    let here = subst (λ t. let of = job_of asked (held_in t) script in (k : ℕ) × EndsAfter asked of k c.answer_words.result (Rose (g.S.Source.faults c.args.source.now) (g.S.Source.faults c.answer_words.new.source)) (Rose (d.faults c.args.disk.now) (d.faults c.answer_words.new.disk)) run.untouched (g.K.Sink.taken c.args.sink.now) (g.K.Sink.taken c.answer_words.new.sink) × (LastsAt of k run ⊎ (BeginsAt of k run ⊎ ((k ≡ 0) × run.untouched)))) rests.told e in
     (here.0, here.1, job_lasts d.holds d.may_leave d.moment d.left_since d.faults c.args.disk.now c.answer_words.new.disk areas rests whole job here.0 here.2))
 
 pub returns-clause-totals : goal.returns-clause-totals

@@ -1,8 +1,8 @@
-use Rattle.std.proofs.Common.{get_or, refl, ◌∙◌, arith}
+use Rattle.std.proofs.Common.{refl, ◌∙◌, arith}
 use Rattle.amr_engine.specs.Plain.{plain}
 use Rattle.amr_program.proofs.Coming.{nothing_taken}
 use Rattle.std.proofs.lemmas.Result.{err_from_is_err_and}
-use Rattle.amr_program.proofs.Commands.{goes_on, kept_first, kept_on, kept_to_end, more_taken, run_stops, begun, all_done}
+use Rattle.amr_program.proofs.Commands.{goes_on, kept_first, kept_on, more_taken, run_stops, begun}
 use Rattle.amr_program.proofs.run.run.Goals as goal
 
 pub returns-in_err-command-clause-stops : goal.returns-in_err-command-clause-stops

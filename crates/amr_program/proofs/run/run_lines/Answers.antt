@@ -1,4 +1,4 @@
-use Rattle.std.proofs.Common.{ap, ◌∙◌, arith}
+use Rattle.std.proofs.Common.{ap, arith}
 use Rattle.std.proofs.lemmas.Grind.{common_steps}
 use Rattle.amr_program.proofs.Parts.{shape_fits}
 use Rattle.amr_program.proofs.run.run_lines.Goals as goal

@@ -1,6 +1,6 @@
 use Rattle.std.proofs.Common.{All, Ok, arith, subst, sym, ap, ◌∙◌}
 use Rattle.mesh_model.specs.Language.Commands.{IsLineOf}
-use Rattle.amr_engine.specs.Plain.{declared_of, plain}
+use Rattle.amr_engine.specs.Plain.{plain}
 use Rattle.amr_engine.specs.Stopping.{Written, stopped_by}
 use Rattle.amr_program.specs.Answer.{Job}
 use Rattle.amr_program.specs.Origins.{mesh_from}
